@@ -1,0 +1,4 @@
+pub mod Pick
+pub mod Lists
+pub mod Xor
+pub mod Text
