@@ -92,7 +92,7 @@ times-nonzero f m b z (suc k) y h e = times-nonzero f m b z k y h (z (times f k 
 
 -- ---- the columns of a table, at the set bits of a number
 
-digit-add : (t x y : ℕ) → x < 2 → y < 2 → differ x y * t ≡ x * t ⊕ y * t
+pub digit-add : (t x y : ℕ) → x < 2 → y < 2 → differ x y * t ≡ x * t ⊕ y * t
 digit-add t zero y hx hy = sym (ap (λ (z : ℕ). z ⊕ y * t) (zero-mul t) ∙ zero-⊕ (y * t))
 digit-add t (suc zero) zero hx hy = sym (ap (λ (z : ℕ). 1 * t ⊕ z) (zero-mul t) ∙ ⊕-zero (1 * t))
 digit-add t (suc zero) (suc zero) hx hy = zero-mul t ∙ sym (⊕-self (1 * t))

@@ -1,0 +1,4 @@
+pub mod Field
+pub mod Exponents
+pub mod Bytes
+pub mod Promises
