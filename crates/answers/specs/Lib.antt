@@ -1,2 +1,8 @@
 pub mod Order
 pub mod Rules
+pub mod Reading
+pub mod Writing
+pub mod Batch
+pub mod Locator
+pub mod Search
+pub mod Lines

@@ -8,7 +8,7 @@ use Rattle.laws.specs.Pick.{pick}
 use Rattle.laws.specs.Lists.{any}
 use Rattle.paper.specs.Charset.{isPrintable, isUpper, isLower}
 use Rattle.paper.specs.Bits.{padding}
-use Rattle.answers.specs.Order.{_gives_, firstOf}
+use Rattle.answers.specs.Order.{Rule, _gives_, firstOf}
 use Rattle.answers.specs.declared.Verdict.{Verdict}
 use Rattle.answers.specs.declared.Verdict.the-variants.{Accepted, Refused}
 
@@ -23,16 +23,17 @@ offenceAfter upper lower (c ∷ cs) =
 unfoldable pub offence : List ℕ → ℕ
 offence prefix = offenceAfter false false prefix
 
--- document 01, "Generic writing": the prefix alone
-unfoldable pub prefixVerdict : List ℕ → Verdict
-prefixVerdict prefix =
-    firstOf Refused
-    (eqb (length prefix) 0 gives 4
+-- document 01, "Generic writing", its first part: the prefix
+abbrev pub prefixRules : List ℕ → List Rule
+prefixRules prefix =
+    eqb (length prefix) 0 gives 4
     ∷ ltb 83 (length prefix) gives 5
     ∷ eqb (offence prefix) 6 gives 6
     ∷ eqb (offence prefix) 2 gives 2
-    ∷ [])
-    Accepted
+    ∷ []
+
+unfoldable pub prefixVerdict : List ℕ → Verdict
+prefixVerdict prefix = firstOf Refused (prefixRules prefix) Accepted
 
 -- document 01, answer 12
 abbrev pub versionUnknown : ℕ → Bool

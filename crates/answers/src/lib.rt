@@ -86,3 +86,12 @@ pub enum Located {
     At(usize),
     Refused(u8),
 }
+
+// One address of a batch: where it stands in the buffer; its verdict, 0 or a number above, and with 0 its version and its program's length.
+pub struct Entry {
+    pub start: usize,
+    pub len: usize,
+    pub verdict: u8,
+    pub version: u8,
+    pub program: usize,
+}

@@ -38,6 +38,11 @@ abbrev pub allBelow : ℕ → (ℕ → Bool) → Bool
 allBelow zero f = true
 allBelow (suc n) f = f n && allBelow n f
 
+-- the test passes at some number below n
+abbrev pub anyBelow : ℕ → (ℕ → Bool) → Bool
+anyBelow zero f = false
+anyBelow (suc n) f = f n || anyBelow n f
+
 -- the first of i, i + 1, .., n of them, that passes the test; i + n where none does
 abbrev pub firstFrom : ℕ → ℕ → (ℕ → Bool) → ℕ
 firstFrom i zero f = i
