@@ -2,3 +2,4 @@ pub mod Computing
 pub mod Cases
 pub mod Orders
 pub mod Split
+pub mod Exact

@@ -1,6 +1,7 @@
 pub mod Order
 pub mod Rules
 pub mod Reading
+pub mod Accepted
 pub mod Writing
 pub mod Batch
 pub mod Locator
