@@ -111,10 +111,10 @@ module _ (constant limit : ℕ) (s p d : List ℕ) (v : ValidString constant lim
 
 -- ---- generic reading
 
-reading-apart : (m n k : ℕ) → reading.Refused k ≡ reading.Accepted m n → ⊥
+pub reading-apart : (m n k : ℕ) → reading.Refused k ≡ reading.Accepted m n → ⊥
 reading-apart m n k e = let z : _≡_ {A = ℕ} 0 1 = cc in omega arith
 
-reading-injective : (m n : ℕ) → reading.Refused m ≡ reading.Refused n → m ≡ n
+pub reading-injective : (m n : ℕ) → reading.Refused m ≡ reading.Refused n → m ≡ n
 reading-injective m n e = cc
 
 payload-length : (s : List ℕ) → length (payload s) ≡ length (dataPart s) - 6
@@ -165,10 +165,10 @@ reads-exactly constant s m n = (accepted-reading constant s m n, valid-reading c
 
 -- ---- segwit reading
 
-address-apart : (v n k : ℕ) → address.Refused k ≡ address.Accepted v n → ⊥
+pub address-apart : (v n k : ℕ) → address.Refused k ≡ address.Accepted v n → ⊥
 address-apart v n k e = let z : _≡_ {A = ℕ} 0 1 = cc in omega arith
 
-address-injective : (m n : ℕ) → address.Refused m ≡ address.Refused n → m ≡ n
+pub address-injective : (m n : ℕ) → address.Refused m ≡ address.Refused n → m ≡ n
 address-injective m n e = cc
 
 -- a data part that is longer than its checksum: the version, the program's symbols, the checksum

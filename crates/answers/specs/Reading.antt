@@ -2,7 +2,7 @@
 -- text they are part of.
 use mathlib.Core.Bool.{Bool, not, _&&_}
 use mathlib.Core.List.{List, [], _∷_, _++_, map}
-use Prim.Native.Nat.{ℕ, _-_}
+use Prim.Native.Nat.{ℕ, _+_, _-_}
 use lib.Dec.{eqb, ltb}
 use lib.ListN.{length, take, drop, getD}
 use Rattle.laws.specs.Pick.{pick}
@@ -124,6 +124,13 @@ addressRules s =
     ∷ lengthWrongFor0 (versionOf s) (length (programOf s)) gives 16
     ∷ []
 
+-- both with the room that was lent, which comes last
+abbrev pub readingBytesRules : ℕ → List ℕ → ℕ → List Rule
+readingBytesRules constant s room = readingRules constant s ++ roomSmall room (toBytes (payloadSymbols s)) gives 17 ∷ []
+
+abbrev pub readingAddressRules : List ℕ → ℕ → List Rule
+readingAddressRules s room = addressRules s ++ roomSmall room (programOf s) gives 17 ∷ []
+
 -- ---- the verdicts
 
 -- generic reading under the checksum with this constant
@@ -138,9 +145,7 @@ partOf (reading.Refused n) part = []
 -- generic reading into bytes; leftover bits are dropped unlooked
 unfoldable pub readBytesVerdict : ℕ → List ℕ → ℕ → Written
 readBytesVerdict constant s room =
-    firstOf written.Refused
-    (readingRules constant s ++ roomSmall room (toBytes (payloadSymbols s)) gives 17 ∷ [])
-    (written.Accepted (length (toBytes (payloadSymbols s))))
+    firstOf written.Refused (readingBytesRules constant s room) (written.Accepted (length (toBytes (payloadSymbols s))))
 
 -- what a lent buffer holds afterwards: the content with what lay past it, or, on a refusal, what it held
 abbrev pub bufferAfter : Written → List ℕ → List ℕ → List ℕ
@@ -154,9 +159,7 @@ addressVerdict s = firstOf address.Refused (addressRules s) (address.Accepted (v
 -- segwit reading into a lent buffer
 unfoldable pub readAddressVerdict : List ℕ → ℕ → Address
 readAddressVerdict s room =
-    firstOf address.Refused
-    (addressRules s ++ roomSmall room (programOf s) gives 17 ∷ [])
-    (address.Accepted (versionOf s) (length (programOf s)))
+    firstOf address.Refused (readingAddressRules s room) (address.Accepted (versionOf s) (length (programOf s)))
 
 abbrev pub programAfter : Address → List ℕ → List ℕ → List ℕ
 programAfter (address.Accepted v n) program before = program ++ drop n before
