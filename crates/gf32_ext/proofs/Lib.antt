@@ -1,0 +1,4 @@
+pub mod First
+pub mod Field
+pub mod Norm
+pub mod Powers

@@ -1,0 +1,4 @@
+pub mod Compare
+pub mod Networks
+pub mod Folding
+pub mod Promises
