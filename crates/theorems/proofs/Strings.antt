@@ -1,0 +1,116 @@
+-- A changed string is read in the same parts, and every rule but the checksum's says of it what it said of the string.
+use mathlib.Core.Path.{_≡_, refl, sym, ap, _∙_, subst}
+use mathlib.Core.Logic.{_≢_}
+use mathlib.Core.Bool.{Bool, true, false, not}
+use mathlib.Core.List.{List, [], _∷_, _++_, map}
+use Prim.Native.Nat.{ℕ, suc, _+_, _≤_, _<_}
+use native.Mathlib.Omega.{arith}
+use lib.Dec.{eqb, ltb}
+use lib.ListN.{length, length-append, length-map}
+use borrow.Author.Tests.{ltb-true, eqb-true, not-true, not-false, ne-eqb}
+use Rattle.laws.specs.Lists.{any, all, Every}
+use Rattle.laws.proofs.Bools.{both-ways, and-first, and-second}
+use Rattle.laws.proofs.Lists.{all-every, any-none, none-any, every-all}
+use Rattle.paper.specs.Charset.{isSeparator, isSymbol, symbol, lower, charset}
+use Rattle.paper.specs.Checksum.{polymod, expand, residue}
+use Rattle.answers.specs.Order.{NoneApplies}
+use Rattle.answers.specs.Reading.{dataPart, prefixPart, characterOutside, mixedCase, separatorMissing, prefixEmpty, prefixLong, prefixByteOutside, longerThan, dataShort, checksumWrong, stringRules}
+use Rattle.answers.proofs.Split.{separator-seen, dataPart-of, prefixPart-of}
+use Rattle.detection.specs.Patterns.{Symbols, dist, Near, Clean}
+use Rattle.detection.proofs.Detection.{detects-after}
+use Rattle.detection.proofs.Distance.{dist-self}
+use Rattle.theorems.specs.Changes.{Changed}
+
+-- the separator is no symbol
+separator-outside : isSymbol 49 ≡ false
+unfolding isSymbol symbol charset
+separator-outside = refl
+
+symbol-no-separator : (c : ℕ) → isSymbol c ≡ true → isSeparator c ≡ false
+symbol-no-separator c e = ne-eqb c 49 (λ same. both-ways (ap isSymbol (sym same) ∙ e) separator-outside)
+
+no-separator : (l : List ℕ) → all isSymbol l ≡ true → any isSeparator l ≡ false
+no-separator l e =
+    none-any isSeparator (λ c. isSymbol c ≡ true) symbol-no-separator l (all-every isSymbol (λ c. isSymbol c ≡ true) (λ c h. h) l e)
+
+symbols-of : (l : List ℕ) → all isSymbol l ≡ true → Symbols (map symbol l)
+unfolding isSymbol
+symbols-of [] e = tt
+symbols-of (c ∷ l) e = (ltb-true (symbol c) 32 (and-first (isSymbol c) (all isSymbol l) e), symbols-of l (and-second (isSymbol c) (all isSymbol l) e))
+
+module _ {w : ℕ} {s t : List ℕ} (c : Changed w s t) where
+  pub part-before : dataPart s ≡ c .part
+  part-before = ap dataPart (c .before) ∙ dataPart-of (c .prefix) (c .part) (no-separator (c .part) (c .symbols))
+
+  pub part-after : dataPart t ≡ c .other
+  part-after = ap dataPart (c .after) ∙ dataPart-of (c .prefix) (c .other) (no-separator (c .other) (c .still-symbols))
+
+  pub prefix-before : prefixPart s ≡ c .prefix
+  prefix-before = ap prefixPart (c .before) ∙ prefixPart-of (c .prefix) (c .part) (no-separator (c .part) (c .symbols))
+
+  pub prefix-after : prefixPart t ≡ c .prefix
+  prefix-after = ap prefixPart (c .after) ∙ prefixPart-of (c .prefix) (c .other) (no-separator (c .other) (c .still-symbols))
+
+  same-prefix : prefixPart t ≡ prefixPart s
+  same-prefix = prefix-after ∙ sym prefix-before
+
+  pub same-part-length : length (dataPart t) ≡ length (dataPart s)
+  same-part-length = ap length part-after ∙ sym (c .one-length) ∙ ap length (sym part-before)
+
+  pub same-length : length t ≡ length s
+  same-length =
+      ap length (c .after) ∙ length-append (c .prefix) (49 ∷ c .other) ∙ ap (λ (n : ℕ). length (c .prefix) + suc n) (sym (c .one-length))
+      ∙ sym (length-append (c .prefix) (49 ∷ c .part)) ∙ sym (ap length (c .before))
+
+  -- the rules that both orders ask first
+  pub string-rules-after : NoneApplies (stringRules s) → NoneApplies (stringRules t)
+  unfolding characterOutside separatorMissing prefixEmpty prefixLong prefixByteOutside
+  string-rules-after none = (
+    rw (part-after, c .still-symbols) refl,
+    (
+      c .one-case,
+      (
+        rw (c .after, separator-seen (c .prefix) (c .other)) refl,
+        (rw same-prefix (none .1 .1 .1 .0), (rw same-prefix (none .1 .1 .1 .1 .0), (rw same-prefix (none .1 .1 .1 .1 .1 .0), tt))),
+      ),
+    ),
+  )
+
+  pub length-after : (limit : ℕ) → longerThan limit s ≡ false → longerThan limit t ≡ false
+  unfolding longerThan
+  length-after limit e = rw same-length e
+
+  pub short-after : dataShort s ≡ false → dataShort t ≡ false
+  unfolding dataShort
+  short-after e = rw same-part-length e
+
+  near : (n : ℕ) → length (dataPart s) ≤ n → Near n w (map symbol (c .part)) (map symbol (c .other))
+  near n within =
+      record {
+        symbols = symbols-of (c .part) (c .symbols);
+        others = symbols-of (c .other) (c .still-symbols);
+        one-length = length-map (c .part) symbol ∙ c .one-length ∙ sym (length-map (c .other) symbol);
+        within = rw (length-map (c .part) symbol, ← part-before) within;
+        few = c .few;
+      }
+
+  -- where no pattern goes unseen, the changed string does not come to the same residue
+  pub checksum-after : (constant n : ℕ) → Clean n w → length (dataPart s) ≤ n → checksumWrong constant s ≡ false → checksumWrong constant t ≡ true
+  unfolding checksumWrong residue
+  checksum-after constant n clean within right =
+      rw (ne-eqb (residue (prefixPart t) (map symbol (dataPart t))) constant other-residue) refl
+    where
+      came : polymod 1 (expand (map lower (c .prefix)) ++ map symbol (c .part)) ≡ constant
+      came =
+          rw (← prefix-before, ← part-before)
+          (eqb-true (residue (prefixPart s) (map symbol (dataPart s))) constant (not-false (eqb (residue (prefixPart s) (map symbol (dataPart s))) constant) right))
+
+      other-residue : residue (prefixPart t) (map symbol (dataPart t)) ≡ constant → ⊥
+      other-residue comes =
+          let same : map symbol (c .part) ≡ map symbol (c .other) =
+          detects-after 1 (expand (map lower (c .prefix))) (map symbol (c .part)) (map symbol (c .other)) (near n within) clean
+          (came ∙ sym (rw (prefix-after, part-after) at comes)) in
+          let none : dist (map symbol (c .part)) (map symbol (c .other)) ≡ 0 =
+          ap (dist (map symbol (c .part))) (sym same) ∙ dist-self (map symbol (c .part)) in
+          let some : 1 ≤ dist (map symbol (c .part)) (map symbol (c .other)) = c .some in
+          omega arith
