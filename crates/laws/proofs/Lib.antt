@@ -6,3 +6,4 @@ pub mod Front
 pub mod Lists
 pub mod Xor
 pub mod Additive
+pub mod First

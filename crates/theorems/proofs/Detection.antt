@@ -3,14 +3,15 @@
 use mathlib.Core.Path.{_≡_, refl, sym, ap, _∙_}
 use mathlib.Core.Logic.{_⊎_, inl, inr, _↔_}
 use mathlib.Core.Bool.{Bool, true, false}
-use mathlib.Core.List.{List, [], _∷_, _++_}
+use mathlib.Core.List.{List, [], _∷_, _++_, map}
 use Prim.Native.Nat.{ℕ, _+_, _≤_}
 use native.Mathlib.Omega.{arith}
 use native.Mathlib.Decide.{ℕ-discrete}
-use lib.Dec.{ltb}
+use lib.Dec.{eqb}
 use lib.ListN.{length, length-append}
-use borrow.Author.Tests.{ltb-false, eq-eqb, ne-eqb}
-use Rattle.paper.specs.Checksum.{constantOf}
+use borrow.Author.Tests.{ltb-false, eqb-true, not-false, eq-eqb, ne-eqb}
+use Rattle.paper.specs.Charset.{symbol}
+use Rattle.paper.specs.Checksum.{residue, constantOf}
 use Rattle.answers.specs.Order.{NoneApplies, FirstApplies}
 use Rattle.answers.specs.Rules.{versionUnknown}
 use Rattle.answers.specs.Reading.{dataPart, prefixPart, payload, versionOf, programOf, longerThan, dataShort, dataMissing, checksumWrong, stringRules, readingRules, addressRules, readVerdict, addressVerdict}
@@ -27,11 +28,22 @@ use Rattle.theorems.proofs.Strings.{part-before, string-rules-after, le
 
 -- ---- generic strings
 
-reading-rules : (constant : ℕ) (s : List ℕ) (m n : ℕ) → readVerdict constant s ≡ reading.Accepted m n → NoneApplies (readingRules constant s)
+pub reading-rules : (constant : ℕ) (s : List ℕ) (m n : ℕ) → readVerdict constant s ≡ reading.Accepted m n → NoneApplies (readingRules constant s)
 unfolding readVerdict
 reading-rules constant s m n e =
     accepted-only reading.Refused reading-injective (reading.Accepted (length (prefixPart s)) (length (payload s))) (reading.Accepted m n)
     (reading-apart m n) (readingRules constant s) e .0
+
+-- an accepted string has the residue, and is not longer than 1023 bytes
+pub residue-right : (constant : ℕ) (s : List ℕ) (m n : ℕ) → readVerdict constant s ≡ reading.Accepted m n → residue (prefixPart s) (map symbol (dataPart s)) ≡ constant
+unfolding checksumWrong
+residue-right constant s m n e =
+    eqb-true (residue (prefixPart s) (map symbol (dataPart s))) constant
+    (not-false (eqb (residue (prefixPart s) (map symbol (dataPart s))) constant) (reading-rules constant s m n e .1 .1 .1 .1 .1 .1 .1 .1 .0))
+
+pub length-right : (constant : ℕ) (s : List ℕ) (m n : ℕ) → readVerdict constant s ≡ reading.Accepted m n → length s ≤ 1023
+unfolding longerThan
+length-right constant s m n e = ltb-false 1023 (length s) (reading-rules constant s m n e .1 .1 .1 .1 .1 .1 .0)
 
 module _ (constant limit w : ℕ) (s t : List ℕ) (m n : ℕ) where
   -- where no pattern of w places in `limit` symbols goes unseen
@@ -74,10 +86,8 @@ part-within s t limit c h =
 -- under the same checksum. For every string: an accepted one has at most 1023 characters.
 pub three-changes-refused : (constant : ℕ) (s t : List ℕ) (m n : ℕ) → readVerdict constant s ≡ reading.Accepted m n → Changed 3 s t
     → readVerdict constant t ≡ reading.Refused 9
-unfolding longerThan
 three-changes-refused constant s t m n e c =
-    let none = reading-rules constant s m n e in
-    found constant 1023 3 s t m n clean-three c (part-within s t 1023 c (ltb-false 1023 (length s) (none .1 .1 .1 .1 .1 .1 .0))) e
+    found constant 1023 3 s t m n clean-three c (part-within s t 1023 c (length-right constant s m n e)) e
 
 -- Up to four places, where the data part has at most 89 symbols.
 pub four-changes-refused : (constant : ℕ) (s t : List ℕ) (m n : ℕ) → readVerdict constant s ≡ reading.Accepted m n → length (dataPart s) ≤ 89 → Changed 4 s t

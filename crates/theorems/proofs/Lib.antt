@@ -1,2 +1,4 @@
 pub mod Strings
 pub mod Detection
+pub mod Sharp
+pub mod Located

@@ -33,7 +33,7 @@ no-separator : (l : List ℕ) → all isSymbol l ≡ true → any isSeparator l 
 no-separator l e =
     none-any isSeparator (λ c. isSymbol c ≡ true) symbol-no-separator l (all-every isSymbol (λ c. isSymbol c ≡ true) (λ c h. h) l e)
 
-symbols-of : (l : List ℕ) → all isSymbol l ≡ true → Symbols (map symbol l)
+pub symbols-of : (l : List ℕ) → all isSymbol l ≡ true → Symbols (map symbol l)
 unfolding isSymbol
 symbols-of [] e = tt
 symbols-of (c ∷ l) e = (ltb-true (symbol c) 32 (and-first (isSymbol c) (all isSymbol l) e), symbols-of l (and-second (isSymbol c) (all isSymbol l) e))
