@@ -1,0 +1,9 @@
+pub mod Constants
+pub mod Match
+pub mod Columns
+pub mod StepLaws
+pub mod Polymod
+pub mod Six
+pub mod Characters
+pub mod Written
+pub mod Wrong

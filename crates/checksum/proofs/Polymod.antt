@@ -1,0 +1,105 @@
+-- Laws of the paper's polymod: over two lists, its bound, and a loop that takes in what is left of a list, one or two symbols a turn.
+use mathlib.Core.Path.{_≡_, refl, sym, ap, _∙_}
+use mathlib.Core.List.{List, [], _∷_, _++_, map}
+use Prim.Native.Nat.{ℕ, suc, _+_, _/_, _%_, _^_, _<_, _≤_}
+use native.Mathlib.Numerals.{add-one}
+use native.Mathlib.Nat.{mod-lt}
+use native.Mathlib.Omega.{arith}
+use lib.ListN.{length, drop, getD, replicate, drop-of-length-le}
+use lib.Pow.{pow-pos}
+use lib.Seq.{drop-cons}
+use Rattle.laws.specs.Lists.{Every}
+use Rattle.laws.specs.Xor.{_⊕_}
+use Rattle.laws.proofs.Xor.{⊕-zero}
+use Rattle.paper.specs.Charset.{lower}
+use Rattle.paper.specs.Checksum.{step, polymod, expand, residue}
+use Rattle.checksum.proofs.StepLaws.{step-both, step-lt}
+
+pub polymod-append : (chk : ℕ) (xs ys : List ℕ) → polymod chk (xs ++ ys) ≡ polymod (polymod chk xs) ys
+unfolding polymod
+polymod-append chk [] ys = refl
+polymod-append chk (x ∷ xs) ys = polymod-append (step chk x) xs ys
+
+-- an engine that took in the prefix and then the symbols
+pub residue-parts : (prefix symbols : List ℕ) → residue prefix symbols ≡ polymod (polymod 1 (expand (map lower prefix))) symbols
+unfolding residue
+residue-parts prefix symbols = polymod-append 1 (expand (map lower prefix)) symbols
+
+pub residue-append : (prefix xs ys : List ℕ) → residue prefix (xs ++ ys) ≡ polymod (residue prefix xs) ys
+residue-append prefix xs ys =
+    residue-parts prefix (xs ++ ys)
+    ∙ polymod-append (polymod 1 (expand (map lower prefix))) xs ys
+    ∙ ap (λ (r : ℕ). polymod r ys) (sym (residue-parts prefix xs))
+
+-- the two halves of a prefix's expansion, and the zero between them
+pub expand-parts : (chk : ℕ) (bytes : List ℕ)
+    → polymod (step (polymod chk (map (λ c. c / 2 ^ 5) bytes)) 0) (map (λ c. c % 2 ^ 5) bytes) ≡ polymod chk (expand bytes)
+unfolding polymod expand
+expand-parts chk bytes = sym (polymod-append chk (map (λ c. c / 2 ^ 5) bytes) (0 ∷ map (λ c. c % 2 ^ 5) bytes))
+
+-- symbols below 32, from a residue of 30 bits, leave one of 30 bits
+pub polymod-lt : (chk : ℕ) (vs : List ℕ) → chk < 2 ^ 30 → Every (λ v. v < 32) vs → polymod chk vs < 2 ^ 30
+unfolding polymod
+polymod-lt chk [] h e = h
+polymod-lt chk (v ∷ vs) h e = polymod-lt (step chk v) vs (step-lt chk v (let k : v < 32 = e .0 in omega arith)) (e .1)
+
+-- a residue has 30 bits, whatever the prefix
+lows-small : (bytes : List ℕ) → Every (λ v. v < 32) (map (λ c. c % 2 ^ 5) bytes)
+lows-small [] = tt
+lows-small (c ∷ cs) = (mod-lt c (pow-pos 5), lows-small cs)
+
+pub expand-lt : (chk : ℕ) (bytes : List ℕ) → polymod chk (expand bytes) < 2 ^ 30
+expand-lt chk bytes =
+    rw (expand-parts chk bytes) at
+    (polymod-lt (step (polymod chk (map (λ c. c / 2 ^ 5) bytes)) 0) (map (λ c. c % 2 ^ 5) bytes)
+    (step-lt (polymod chk (map (λ c. c / 2 ^ 5) bytes)) 0 (omega arith)) (lows-small bytes))
+
+pub residue-lt : (prefix symbols : List ℕ) → Every (λ v. v < 32) symbols → residue prefix symbols < 2 ^ 30
+residue-lt prefix symbols e =
+    rw (residue-parts prefix symbols)
+    (polymod-lt (polymod 1 (expand (map lower prefix))) symbols (expand-lt 1 (map lower prefix)) e)
+
+-- a part of the residue goes on alone, as if zeros were taken in
+pub polymod-both : (a b : ℕ) (vs : List ℕ) → polymod (a ⊕ b) vs ≡ polymod a (replicate (length vs) 0) ⊕ polymod b vs
+unfolding polymod
+polymod-both a b [] = refl
+polymod-both a b (v ∷ vs) = ap (λ (c : ℕ). polymod c vs) (step-both a b v) ∙ polymod-both (step a 0) (step b v) vs
+
+pub polymod-zeros : (chk : ℕ) (vs : List ℕ) → polymod chk vs ≡ polymod chk (replicate (length vs) 0) ⊕ polymod 0 vs
+polymod-zeros chk vs = ap (λ (c : ℕ). polymod c vs) (sym (⊕-zero chk)) ∙ polymod-both chk 0 vs
+
+-- ---- a loop over a list s that takes in f of each element
+
+-- K lists f of each element
+pub record Each (f : ℕ → ℕ) (K : List ℕ → List ℕ) : Type 0 where
+  pub none : K [] ≡ []
+  pub some : (x : ℕ) (xs : List ℕ) → K (x ∷ xs) ≡ f x ∷ K xs
+
+pub plain : Each (λ x. x) (λ l. l)
+plain = record { none = refl; some = λ x xs. refl }
+
+pub mapped : (f : ℕ → ℕ) → Each f (map f)
+mapped f = record { none = refl; some = λ x xs. refl }
+
+pub mapped-twice : (f g : ℕ → ℕ) → Each (λ x. f (g x)) (λ l. map f (map g l))
+mapped-twice f g = record { none = refl; some = λ x xs. refl }
+
+-- what is left at place i, after one element, after two, after the last one, and where there is none
+module _ {f : ℕ → ℕ} {K : List ℕ → List ℕ} (each : Each f K) (s : List ℕ) (r i : ℕ) where
+  pub one-more : {r′ v : ℕ} → i < length s → v ≡ f (getD s i 0) → r′ ≡ step r v → polymod r′ (K (drop (i + 1) s)) ≡ polymod r (K (drop i s))
+  unfolding polymod
+  one-more h p q = rw (q, p, add-one, drop-cons s i 0, each .some (getD s i 0) (drop (suc i) s))
+
+  pub no-more : length s ≤ i → r ≡ polymod r (K (drop i s))
+  unfolding polymod
+  no-more h = rw (drop-of-length-le s h, each .none)
+
+module _ {f : ℕ → ℕ} {K : List ℕ → List ℕ} (each : Each f K) (s : List ℕ) (r i : ℕ) where
+  pub two-more : {r′ u v : ℕ} → i + 1 < length s → u ≡ f (getD s i 0) → v ≡ f (getD s (i + 1) 0) → r′ ≡ step (step r u) v
+      → polymod r′ (K (drop (i + 2) s)) ≡ polymod r (K (drop i s))
+  two-more {r′} {u} h p q e =
+      let two : i + 2 ≡ i + 1 + 1 = omega arith in
+      ap (λ (n : ℕ). polymod r′ (K (drop n s))) two ∙ one-more each s (step r u) (i + 1) h q e ∙ one-more each s r i (omega arith) p refl
+
+  pub last-one : {r′ v : ℕ} → i < length s → length s ≤ i + 1 → v ≡ f (getD s i 0) → r′ ≡ step r v → r′ ≡ polymod r (K (drop i s))
+  last-one {r′} h k p q = no-more each s r′ (i + 1) k ∙ one-more each s r i h p q

@@ -1,0 +1,11 @@
+pub mod Bits
+pub mod Groups
+pub mod Lengths
+pub mod Round
+pub mod Window
+pub mod Places
+pub mod Leftover
+pub mod Characters
+pub mod Answers
+pub mod Walks
+pub mod Cases
