@@ -2,3 +2,4 @@ pub mod Strings
 pub mod Detection
 pub mod Sharp
 pub mod Located
+pub mod Reading

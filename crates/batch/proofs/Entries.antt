@@ -1,0 +1,35 @@
+-- One entry: what its verdict is inside the buffer and outside it. The code compares start and length without their sum, the definition by it.
+use mathlib.Core.Path.{_≡_, refl}
+use mathlib.Core.List.{List}
+use Prim.Native.Nat.{ℕ, _+_, _-_, _<_, _≤_}
+use native.Mathlib.Omega.{arith}
+use borrow.Author.Tests.{lt-ltb, le-ltb}
+use lib.ListN.{length, take, drop}
+use Rattle.answers.specs.Batch.{entryVerdict, judged, judgedAs}
+use Rattle.answers.specs.Reading.{addressVerdict}
+use Rattle.answers.specs.declared.Address.{Address}
+use Rattle.answers.specs.declared.Address.the-variants as address
+use Rattle.answers.specs.declared.Entry.{Entry}
+
+module _ (buffer : List ℕ) (e : Entry) where
+  pub reaches-outside : length buffer < e .start + e .len → address.Refused 20 ≡ entryVerdict buffer e
+  unfolding entryVerdict
+  reaches-outside h = rw (lt-ltb (length buffer) (e .start + e .len) h)
+
+  pub stays-inside : e .start + e .len ≤ length buffer → addressVerdict (take (e .len) (drop (e .start) buffer)) ≡ entryVerdict buffer e
+  unfolding entryVerdict
+  stays-inside h = rw (le-ltb (length buffer) (e .start + e .len) h)
+
+  pub starts-outside : length buffer < e .start → address.Refused 20 ≡ entryVerdict buffer e
+  starts-outside h = reaches-outside (omega arith)
+
+  pub ends-outside : length buffer - e .start < e .len → address.Refused 20 ≡ entryVerdict buffer e
+  ends-outside h = reaches-outside (omega arith)
+
+  pub part-judged : e .start ≤ length buffer → e .len ≤ length buffer - e .start
+      → addressVerdict (take (e .start + e .len - e .start) (drop (e .start) buffer)) ≡ entryVerdict buffer e
+  part-judged h k = let n : e .start + e .len - e .start ≡ e .len = omega arith in rw n (stays-inside (omega arith))
+
+  pub entry-judged : judgedAs e (entryVerdict buffer e) ≡ judged buffer e
+  unfolding judged
+  entry-judged = refl

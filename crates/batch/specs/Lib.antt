@@ -1,0 +1,2 @@
+pub mod ByValue
+pub mod Promises

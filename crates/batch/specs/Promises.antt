@@ -1,0 +1,24 @@
+-- What each function promises, and that only one outcome meets it.
+use mathlib.Core.Path.{_≡_}
+use mathlib.Core.List.{List}
+use Prim.Native.Nat.{ℕ}
+use Rattle.laws.proofs.Bools.{same}
+use Rattle.answers.specs.Batch.{judged}
+use Rattle.answers.specs.declared.Entry.{Entry}
+use Rattle.batch.specs.ByValue.{judgedAll}
+use Rattle.batch.specs.declared.Batch.{Batch}
+use Rattle.batch.specs.declared.Judged.{Judged}
+
+-- batch::judge
+abbrev pub EntryJudged : List ℕ → Entry → Entry → Type 0
+EntryJudged buffer entry r = r ≡ judged buffer entry
+
+pub entry-judged-once : (buffer : List ℕ) (entry r s : Entry) → EntryJudged buffer entry r → EntryJudged buffer entry s → r ≡ s
+entry-judged-once buffer entry r s p q = same p q
+
+-- batch::judge_all
+abbrev pub AllJudged : List ℕ → Batch → Judged → Type 0
+AllJudged buffer batch r = r ≡ judgedAll buffer batch
+
+pub all-judged-once : (buffer : List ℕ) (batch : Batch) (r s : Judged) → AllJudged buffer batch r → AllJudged buffer batch s → r ≡ s
+all-judged-once buffer batch r s p q = same p q

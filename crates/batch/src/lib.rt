@@ -1,0 +1,90 @@
+// Many addresses in one buffer, each judged for itself: document 01's module 11, the batch. A list comes by value, as an array with a count.
+use answers::Address;
+use answers::BATCH_LONG;
+use answers::ENTRY_OUTSIDE;
+use answers::Entry;
+use answers::Verdict;
+ghost use mathlib.Core.Path.{_≡_};
+ghost use Rattle.answers.specs.Batch.{entryVerdict, judgedAs};
+ghost use Rattle.batch.specs.Promises.{EntryJudged, AllJudged};
+
+pub const MAX_ENTRIES: usize = 32;
+
+// The first `count` of the entries are the list.
+pub struct Batch {
+    pub entries: [Entry; 32],
+    pub count: usize,
+}
+
+// The answer of the batch itself, and the entries with theirs.
+pub struct Judged {
+    pub verdict: Verdict,
+    pub batch: Batch,
+}
+
+// One entry with its verdict, version and program length; where it stands is kept.
+pub fn judge(buffer: &[u8], entry: Entry) -> Entry
+    ensures { λ r. ⌜ EntryJudged (now (buffer .entry)) entry r ⌝ }
+{
+    judged_as(entry, entry_verdict(buffer, entry))
+}
+
+// Start and length are compared without their sum, which may be no usize.
+fn entry_verdict(buffer: &[u8], entry: Entry) -> Address
+    ensures { λ r. ⌜ r ≡ entryVerdict (now (buffer .entry)) entry ⌝ }
+{
+    let start = entry.start;
+    let len = entry.len;
+    if buffer.len() < start {
+        return Address::Refused(ENTRY_OUTSIDE);
+    }
+    if buffer.len() - start < len {
+        return Address::Refused(ENTRY_OUTSIDE);
+    }
+    decode::check_address(&buffer[start..start + len])
+}
+
+fn judged_as(entry: Entry, address: Address) -> Entry
+    ensures { λ r. ⌜ r ≡ judgedAs entry address ⌝ }
+{
+    match address {
+        Address::Accepted(version, program) => with_results(entry, 0, version, program),
+        Address::Refused(number) => with_results(entry, number, 0, 0),
+    }
+}
+
+fn with_results(entry: Entry, verdict: u8, version: u8, program: usize) -> Entry
+    ensures { λ r. ⌜ r ≡ record { start = entry .start; len = entry .len; verdict = verdict; version = version; program = program } ⌝ }
+{
+    Entry {
+        start: entry.start,
+        len: entry.len,
+        verdict,
+        version,
+        program,
+    }
+}
+
+// Each entry of the list judged in its place.
+pub fn judge_all(buffer: &[u8], batch: Batch) -> Judged
+    ensures { λ r. ⌜ AllJudged (now (buffer .entry)) batch r ⌝ }
+{
+    let count = batch.count;
+    if MAX_ENTRIES < count {
+        return Judged {
+            verdict: Verdict::Refused(BATCH_LONG),
+            batch,
+        };
+    }
+    let mut judged = batch;
+    let mut i = 0;
+    while i < count {
+        let entry = judged.entries[i];
+        judged.entries[i] = judge(buffer, entry);
+        i += 1;
+    }
+    Judged {
+        verdict: Verdict::Accepted,
+        batch: judged,
+    }
+}

@@ -1,0 +1,81 @@
+-- The symbols of the characters, one store a turn. The invariant: the first i of them are there, the rest is as it was.
+use mathlib.Core.Path.{_≡_, refl, sym, ap, _∙_}
+use mathlib.Core.List.{List, map}
+use Prim.Native.Nat.{ℕ, _≤_, _-_}
+use native.Mathlib.Omega.{arith}
+use borrow.Author.Needs.{needs}
+use lib.ListN.{length, getD, length-set}
+use Rattle.laws.proofs.Front.{front, map-more, map-all}
+use Rattle.paper.specs.Charset.{symbol}
+use Rattle.checksum.proofs.Characters.{class-read}
+use Rattle.decode.proofs.symbols.fill_symbols.Statement.{statement}
+use Rattle.decode.proofs.symbols.fill_symbols.Tie as tie
+
+abbrev Inv-loop : tie.InvT-loop
+Inv-loop characters out₀ table i₀ out i = (i ≤ length characters) × (length out ≡ length out₀) × (out ≡ front (map symbol characters) out₀ i)
+
+abbrev μ-loop : tie.MeasureT-loop
+μ-loop characters out₀ table i₀ out i = length characters - i
+
+classes-requires : tie.Need-classes-requires Inv-loop μ-loop
+classes-requires c κs = search needs
+
+loop-holds : tie.Need-loop-holds Inv-loop μ-loop
+loop-holds c = (search needs, refl, refl)
+
+shared-slice-read-symbol-in : tie.Need-shared-slice-read-symbol-in Inv-loop μ-loop
+shared-slice-read-symbol-in c = search needs
+
+cast-symbol-in : tie.Need-cast-symbol-in Inv-loop μ-loop
+cast-symbol-in c = record { fits = omega (arith, c .shared-slice-known2 .given (c .before .before .loop .i)) }
+
+array-read-symbol-in : tie.Need-array-read-symbol-in Inv-loop μ-loop
+array-read-symbol-in c = omega (arith, c .shared-slice-known2 .given (c .before .before .loop .i))
+
+symbol-in-requires : tie.Need-symbol-in-requires Inv-loop μ-loop
+symbol-in-requires c κs = search needs
+
+slice-write-out : tie.Need-slice-write-out Inv-loop μ-loop
+slice-write-out c = search needs
+
+add-i : tie.Need-add-i Inv-loop μ-loop
+add-i c = search needs
+
+loop-less : tie.Need-loop-less Inv-loop μ-loop
+loop-less c = search needs
+
+loop-again : tie.Need-loop-again Inv-loop μ-loop
+loop-again c =
+    let l = c .before .before .before .loop in
+    let given = c .before .before .before .before in
+    let a = c .before .before .before .before .before .before .before .args in
+    let v = class-read (given .classes .result) (getD (a .characters .now) (l .i) 0) (given .classes .ensures) (c .before .shared-slice-known2 .given (l .i) .fits) in
+    let e = map-more 0 symbol (a .characters .now) (a .out .now) (l .i) (search needs) (search needs) in
+    (search needs, simp length-set (search needs), cc (v, e))
+
+same-length : tie.Need-same-length Inv-loop μ-loop
+same-length c = search needs
+
+returns : tie.Need-returns Inv-loop μ-loop
+returns c =
+    c .before .loop .inv .2
+    ∙ map-all 0 symbol (c .before .before .before .before .before .args .characters .now) _ (c .before .loop .i) (search needs) (search needs)
+
+pub fill-symbols-spec : {M : Type 1} → statement M
+fill-symbols-spec =
+    tie.close
+    (tie.spec
+    Inv-loop
+    μ-loop
+    classes-requires
+    loop-holds
+    shared-slice-read-symbol-in
+    cast-symbol-in
+    array-read-symbol-in
+    symbol-in-requires
+    slice-write-out
+    add-i
+    loop-less
+    loop-again
+    same-length
+    returns)

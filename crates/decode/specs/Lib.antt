@@ -1,0 +1,4 @@
+pub mod Scan
+pub mod Splitting
+pub mod Symbols
+pub mod Promises

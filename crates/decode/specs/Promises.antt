@@ -1,0 +1,124 @@
+-- What each public function promises, and that two answers which keep the promise are equal.
+use mathlib.Core.Path.{_≡_}
+use mathlib.Core.List.{List}
+use Prim.Native.Nat.{ℕ}
+use lib.ListN.{length}
+use Rattle.laws.proofs.Bools.{same}
+use Rattle.paper.specs.Bits.{toBytes}
+use Rattle.answers.specs.Reading.{prefixPart, payload, payloadSymbols, programOf, readVerdict, partOf, readBytesVerdict, bufferAfter, addressVerdict, readAddressVerdict, programAfter}
+use Rattle.answers.specs.declared.Reading.{Reading}
+use Rattle.answers.specs.declared.Address.{Address}
+use Rattle.answers.specs.declared.Verdict.{Verdict}
+use Rattle.answers.specs.declared.Written.{Written}
+use Rattle.checksum.specs.Parameters.{constantFor}
+use Rattle.checksum.specs.declared.Checksum.{Checksum}
+use Rattle.decode.specs.Symbols.{readSymbolsVerdict}
+use Rattle.decode.specs.Splitting.{splitVerdict, prefixIn, dataIn, payloadIn, programIn, versionIn, checkIn}
+use Rattle.decode.specs.declared.Parts.{Parts}
+use Rattle.decode.specs.declared.Parted.{Parted}
+use Rattle.decode.specs.declared.Version.{Version}
+
+-- decode::read
+abbrev pub WasRead : Checksum → List ℕ → Reading → Type 0
+WasRead checksum s r = r ≡ readVerdict (constantFor checksum) s
+
+pub was-read-once : (checksum : Checksum) (s : List ℕ) (r r′ : Reading) → WasRead checksum s r → WasRead checksum s r′ → r ≡ r′
+was-read-once checksum s r r′ p q = same p q
+
+-- decode::data_part
+abbrev pub DataPartGiven : Checksum → List ℕ → List ℕ → Type 0
+DataPartGiven checksum s r = r ≡ partOf (readVerdict (constantFor checksum) s) (payload s)
+
+pub data-part-given-once : (checksum : Checksum) (s r r′ : List ℕ) → DataPartGiven checksum s r → DataPartGiven checksum s r′ → r ≡ r′
+data-part-given-once checksum s r r′ p q = same p q
+
+-- decode::prefix_part
+abbrev pub PrefixPartGiven : Checksum → List ℕ → List ℕ → Type 0
+PrefixPartGiven checksum s r = r ≡ partOf (readVerdict (constantFor checksum) s) (prefixPart s)
+
+pub prefix-part-given-once : (checksum : Checksum) (s r r′ : List ℕ) → PrefixPartGiven checksum s r → PrefixPartGiven checksum s r′ → r ≡ r′
+prefix-part-given-once checksum s r r′ p q = same p q
+
+-- decode::read_symbols
+pub record SymbolsRead (checksum : Checksum) (s before : List ℕ) (r : Written) (after : List ℕ) : Type 0 where
+  pub answer : r ≡ readSymbolsVerdict (constantFor checksum) s (length before)
+  pub buffer : after ≡ bufferAfter (readSymbolsVerdict (constantFor checksum) s (length before)) (payloadSymbols s) before
+
+pub symbols-read-once : (checksum : Checksum) (s before : List ℕ) (r r′ : Written) (after after′ : List ℕ)
+    → SymbolsRead checksum s before r after → SymbolsRead checksum s before r′ after′ → (r ≡ r′) × (after ≡ after′)
+symbols-read-once checksum s before r r′ after after′ p q = (same (p .answer) (q .answer), same (p .buffer) (q .buffer))
+
+-- decode::read_bytes
+pub record BytesRead (checksum : Checksum) (s before : List ℕ) (r : Written) (after : List ℕ) : Type 0 where
+  pub answer : r ≡ readBytesVerdict (constantFor checksum) s (length before)
+  pub buffer : after ≡ bufferAfter (readBytesVerdict (constantFor checksum) s (length before)) (toBytes (payloadSymbols s)) before
+
+pub bytes-read-once : (checksum : Checksum) (s before : List ℕ) (r r′ : Written) (after after′ : List ℕ)
+    → BytesRead checksum s before r after → BytesRead checksum s before r′ after′ → (r ≡ r′) × (after ≡ after′)
+bytes-read-once checksum s before r r′ after after′ p q = (same (p .answer) (q .answer), same (p .buffer) (q .buffer))
+
+-- decode::check_address
+abbrev pub AddressChecked : List ℕ → Address → Type 0
+AddressChecked s r = r ≡ addressVerdict s
+
+pub address-checked-once : (s : List ℕ) (r r′ : Address) → AddressChecked s r → AddressChecked s r′ → r ≡ r′
+address-checked-once s r r′ p q = same p q
+
+-- decode::read_address
+pub record AddressRead (s before : List ℕ) (r : Address) (after : List ℕ) : Type 0 where
+  pub answer : r ≡ readAddressVerdict s (length before)
+  pub buffer : after ≡ programAfter (readAddressVerdict s (length before)) (programOf s) before
+
+pub address-read-once : (s before : List ℕ) (r r′ : Address) (after after′ : List ℕ)
+    → AddressRead s before r after → AddressRead s before r′ after′ → (r ≡ r′) × (after ≡ after′)
+address-read-once s before r r′ after after′ p q = (same (p .answer) (q .answer), same (p .buffer) (q .buffer))
+
+-- decode::split
+abbrev pub WasSplit : List ℕ → Parted → Type 0
+WasSplit s r = r ≡ splitVerdict s
+
+pub was-split-once : (s : List ℕ) (r r′ : Parted) → WasSplit s r → WasSplit s r′ → r ≡ r′
+was-split-once s r r′ p q = same p q
+
+-- decode::check
+abbrev pub Checked : List ℕ → Parts → Checksum → Verdict → Type 0
+Checked s parts checksum r = r ≡ checkIn (constantFor checksum) s parts
+
+pub checked-once : (s : List ℕ) (parts : Parts) (checksum : Checksum) (r r′ : Verdict)
+    → Checked s parts checksum r → Checked s parts checksum r′ → r ≡ r′
+checked-once s parts checksum r r′ p q = same p q
+
+-- decode::version_of
+abbrev pub VersionGiven : List ℕ → Parts → Version → Type 0
+VersionGiven s parts r = r ≡ versionIn s parts
+
+pub version-given-once : (s : List ℕ) (parts : Parts) (r r′ : Version) → VersionGiven s parts r → VersionGiven s parts r′ → r ≡ r′
+version-given-once s parts r r′ p q = same p q
+
+-- decode::prefix_of
+abbrev pub PrefixGiven : List ℕ → Parts → List ℕ → Type 0
+PrefixGiven s parts r = r ≡ prefixIn s parts
+
+pub prefix-given-once : (s : List ℕ) (parts : Parts) (r r′ : List ℕ) → PrefixGiven s parts r → PrefixGiven s parts r′ → r ≡ r′
+prefix-given-once s parts r r′ p q = same p q
+
+-- decode::data_of
+abbrev pub DataGiven : List ℕ → Parts → List ℕ → Type 0
+DataGiven s parts r = r ≡ dataIn s parts
+
+pub data-given-once : (s : List ℕ) (parts : Parts) (r r′ : List ℕ) → DataGiven s parts r → DataGiven s parts r′ → r ≡ r′
+data-given-once s parts r r′ p q = same p q
+
+-- decode::payload_of
+abbrev pub PayloadGiven : List ℕ → Parts → List ℕ → Type 0
+PayloadGiven s parts r = r ≡ payloadIn s parts
+
+pub payload-given-once : (s : List ℕ) (parts : Parts) (r r′ : List ℕ) → PayloadGiven s parts r → PayloadGiven s parts r′ → r ≡ r′
+payload-given-once s parts r r′ p q = same p q
+
+-- decode::program_of
+abbrev pub ProgramGiven : List ℕ → Parts → List ℕ → Type 0
+ProgramGiven s parts r = r ≡ programIn s parts
+
+pub program-given-once : (s : List ℕ) (parts : Parts) (r r′ : List ℕ) → ProgramGiven s parts r → ProgramGiven s parts r′ → r ≡ r′
+program-given-once s parts r r′ p q = same p q

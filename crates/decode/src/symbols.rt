@@ -1,0 +1,38 @@
+// Characters as symbols, into a lent buffer.
+use answers::ROOM_SMALL;
+use answers::Written;
+ghost use mathlib.Core.Path.{_≡_};
+ghost use mathlib.Core.List.{_++_, map};
+ghost use Prim.Native.Nat.{_+_, _*_, _/_, _%_, _≤_};
+ghost use lib.ListN.{length, drop};
+ghost use Rattle.paper.specs.Charset.{symbol};
+ghost use Rattle.iter.specs.Writing.{Wrote};
+
+pub(crate) fn put_symbols(characters: &[u8], out: &mut [u8]) -> Written
+    ensures { λ r. ⌜ Wrote (map symbol (now (characters .entry))) (now (out .entry)) r (now (out .exit)) ⌝ }
+{
+    if out.len() < characters.len() {
+        return Written::Refused(ROOM_SMALL);
+    }
+    fill_symbols(characters, out);
+    Written::Accepted(characters.len())
+}
+
+fn fill_symbols(characters: &[u8], out: &mut [u8])
+    requires { ⌜ length (now characters) ≤ length (now out) ⌝ }
+    ensures { λ _. ⌜ now (out .exit) ≡ map symbol (now (characters .entry)) ++ drop (length (now (characters .entry))) (now (out .entry)) ⌝ }
+{
+    let table = gf32::classes();
+    let mut i = 0;
+    while i < characters.len() {
+        out[i] = symbol_in(table[characters[i] as usize]);
+        i += 1;
+    }
+}
+
+// The symbol in a class: its low five bits, and 32 for a byte outside the charset.
+fn symbol_in(class: u8) -> u8
+    ensures { λ r. ⌜ r ≡ class % 32 + class / 128 * 32 ⌝ }
+{
+    class % 32 + class / 128 * 32
+}

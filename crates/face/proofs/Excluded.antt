@@ -1,0 +1,68 @@
+-- Wrong answers that the promises exclude, each on a concrete input: a function that always refuses, one that leaves its results or the buffer alone,
+-- one that takes any code.
+use mathlib.Core.Path.{_≡_, refl, sym, ap, _∙_}
+use mathlib.Core.List.{List}
+use Prim.Native.Nat.{ℕ, suc}
+use native.Mathlib.Omega.{arith}
+use lib.ListN.{length, getD, replicate}
+use Rattle.laws.specs.Text.{bytes}
+use Rattle.paper.specs.Checksum.{bech32}
+use Rattle.answers.specs.Reading.{addressVerdict, readAddressVerdict, readVerdict, readBytesVerdict, programOf, programAfter}
+use Rattle.answers.specs.declared.Written.the-variants as written
+use Rattle.answers.proofs.Computing.{computing}
+use Rattle.answers.proofs.Cases.{taproot, room-32, abcd-bech32}
+use Rattle.face.specs.Codes.{codedRead, codedBytes, numberOfReading, symbolsOfReading, numberOfWritten, countOfWritten, numberOfAddress, versionOfAddress}
+use Rattle.face.specs.Promises.{AddressChecked, AddressRead, StringRead, BytesRead}
+
+abbrev address : List ℕ
+address = bytes "bc1pdp43hj65vxw49rts6kcw35u6r6tgzguyr03vvveeewjqpn05efzq7un9w0"
+
+abbrev other-address : List ℕ
+other-address = bytes "bc1p0xlxvlhemja6c4dqv22uapctqupfhlxm9h8z3k2e72q4k9hcz7vqzk5jj0"
+
+abbrev string : List ℕ
+string = bytes "abcd14g08d6qejxtdg4y5r3zarvary0c5xw7kxugcx9"
+
+-- ---- pennywax_check_address
+
+pub check-not-refused : (k v n : ℕ) → AddressChecked address (suc k) v n → ⊥
+check-not-refused k v n p = let e : suc k ≡ 0 = p .number ∙ ap numberOfAddress taproot in omega arith
+
+pub check-gives-version : (r n : ℕ) → AddressChecked address r 0 n → ⊥
+check-gives-version r n p = let e : _≡_ {A = ℕ} 0 1 = p .version-given ∙ ap versionOfAddress taproot in omega arith
+
+-- ---- pennywax_read_address
+
+pub read-address-not-refused : (k : ℕ) (after : List ℕ) (v n : ℕ) → AddressRead other-address (replicate 32 0) (suc k) after v n → ⊥
+read-address-not-refused k after v n p = let e : suc k ≡ 0 = p .number ∙ ap numberOfAddress room-32 in omega arith
+
+program-first : getD (programAfter (readAddressVerdict other-address 32) (programOf other-address) (replicate 32 0)) 0 0 ≡ 0x79
+unfolding computing
+program-first = refl
+
+pub read-address-writes : (r v n : ℕ) → AddressRead other-address (replicate 32 0) r (replicate 32 0) v n → ⊥
+read-address-writes r v n p = let e : _≡_ {A = ℕ} 0 0x79 = ap (λ (l : List ℕ). getD l 0 0) (p .buffer) ∙ program-first in omega arith
+
+-- ---- pennywax_read
+
+pub read-not-refused : (k m n : ℕ) → StringRead 1 string (suc k) m n → ⊥
+unfolding codedRead
+read-not-refused k m n p = let e : suc k ≡ 0 = p .number ∙ ap numberOfReading abcd-bech32 in omega arith
+
+pub read-knows-codes : (m n : ℕ) → StringRead 3 string 0 m n → ⊥
+unfolding codedRead
+read-knows-codes m n p = let e : _≡_ {A = ℕ} 0 28 = p .number in omega arith
+
+-- ---- pennywax_read_bytes
+
+bytes-of-string : readBytesVerdict bech32 string 20 ≡ written.Accepted 20
+unfolding computing
+bytes-of-string = refl
+
+pub read-bytes-not-refused : (k : ℕ) (after : List ℕ) (n : ℕ) → BytesRead 1 string (replicate 20 0) (suc k) after n → ⊥
+unfolding codedBytes
+read-bytes-not-refused k after n p = let e : suc k ≡ 0 = p .number ∙ ap numberOfWritten bytes-of-string in omega arith
+
+pub read-bytes-knows-codes : (after : List ℕ) (n : ℕ) → BytesRead 0 string (replicate 20 0) 0 after n → ⊥
+unfolding codedBytes
+read-bytes-knows-codes after n p = let e : _≡_ {A = ℕ} 0 28 = p .number in omega arith

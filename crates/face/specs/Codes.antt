@@ -1,0 +1,64 @@
+-- Document 01, answer 28: where a checksum is a number, 1 is Bech32 and 2 is Bech32m; any other is refused before all else.
+use mathlib.Core.Path.{_≡_}
+use mathlib.Core.List.{List}
+use Prim.Native.Nat.{ℕ}
+use lib.Dec.{eqb}
+use lib.ListN.{length}
+use Rattle.laws.specs.Pick.{pick}
+use Rattle.paper.specs.Checksum.{bech32, bech32m}
+use Rattle.paper.specs.Bits.{toBytes}
+use Rattle.answers.specs.Reading.{payloadSymbols, readVerdict, readBytesVerdict, bufferAfter}
+use Rattle.answers.specs.declared.Reading.{Reading}
+use Rattle.answers.specs.declared.Reading.the-variants as reading
+use Rattle.answers.specs.declared.Written.{Written}
+use Rattle.answers.specs.declared.Written.the-variants as written
+use Rattle.answers.specs.declared.Address.{Address}
+use Rattle.answers.specs.declared.Address.the-variants as address
+
+-- what is answered for a code, given what is answered for a checksum's constant and what is answered for an unknown code
+abbrev pub byCode : {A : Type 0} → ℕ → (ℕ → A) → A → A
+byCode code answer unknown = pick (eqb code 1) (answer bech32) (pick (eqb code 2) (answer bech32m) unknown)
+
+unfoldable pub codedRead : ℕ → List ℕ → Reading
+codedRead code s = byCode code (λ constant. readVerdict constant s) (reading.Refused 28)
+
+unfoldable pub codedBytes : ℕ → List ℕ → ℕ → Written
+codedBytes code s room = byCode code (λ constant. readBytesVerdict constant s room) (written.Refused 28)
+
+pub record CodedBytes (code : ℕ) (s before : List ℕ) (r : Written) (after : List ℕ) : Type 0 where
+  pub answer : r ≡ codedBytes code s (length before)
+  pub buffer : after ≡ bufferAfter (codedBytes code s (length before)) (toBytes (payloadSymbols s)) before
+
+-- ---- an answer as numbers: 0 for accepted, or the refusal's; and the other results, 0 on a refusal
+
+abbrev pub numberOfReading : Reading → ℕ
+numberOfReading (reading.Accepted m n) = 0
+numberOfReading (reading.Refused k) = k
+
+abbrev pub prefixOfReading : Reading → ℕ
+prefixOfReading (reading.Accepted m n) = m
+prefixOfReading (reading.Refused k) = 0
+
+abbrev pub symbolsOfReading : Reading → ℕ
+symbolsOfReading (reading.Accepted m n) = n
+symbolsOfReading (reading.Refused k) = 0
+
+abbrev pub numberOfWritten : Written → ℕ
+numberOfWritten (written.Accepted n) = 0
+numberOfWritten (written.Refused k) = k
+
+abbrev pub countOfWritten : Written → ℕ
+countOfWritten (written.Accepted n) = n
+countOfWritten (written.Refused k) = 0
+
+abbrev pub numberOfAddress : Address → ℕ
+numberOfAddress (address.Accepted v n) = 0
+numberOfAddress (address.Refused k) = k
+
+abbrev pub versionOfAddress : Address → ℕ
+versionOfAddress (address.Accepted v n) = v
+versionOfAddress (address.Refused k) = 0
+
+abbrev pub lengthOfAddress : Address → ℕ
+lengthOfAddress (address.Accepted v n) = n
+lengthOfAddress (address.Refused k) = 0

@@ -1,0 +1,56 @@
+-- What each function promises, and that two outcomes which keep the promise are equal.
+use mathlib.Core.Path.{_≡_}
+use mathlib.Core.List.{List}
+use Prim.Native.Nat.{ℕ}
+use lib.ListN.{length}
+use Rattle.laws.proofs.Bools.{same}
+use Rattle.paper.specs.Bits.{toBytes}
+use Rattle.answers.specs.Reading.{payloadSymbols, programOf, addressVerdict, readAddressVerdict, programAfter, bufferAfter}
+use Rattle.face.specs.Codes.{codedRead, codedBytes, numberOfReading, prefixOfReading, symbolsOfReading, numberOfWritten, countOfWritten, numberOfAddress, versionOfAddress, lengthOfAddress}
+
+-- face::pennywax_check_address
+pub record AddressChecked (s : List ℕ) (r version n : ℕ) : Type 0 where
+  pub number : r ≡ numberOfAddress (addressVerdict s)
+  pub version-given : version ≡ versionOfAddress (addressVerdict s)
+  pub length-given : n ≡ lengthOfAddress (addressVerdict s)
+
+pub address-checked-once : (s : List ℕ) (r r′ v v′ n n′ : ℕ) → AddressChecked s r v n → AddressChecked s r′ v′ n′ → (r ≡ r′) × (v ≡ v′) × (n ≡ n′)
+address-checked-once s r r′ v v′ n n′ p q =
+    (same (p .number) (q .number), same (p .version-given) (q .version-given), same (p .length-given) (q .length-given))
+
+-- face::pennywax_read_address
+pub record AddressRead (s before : List ℕ) (r : ℕ) (after : List ℕ) (version n : ℕ) : Type 0 where
+  pub number : r ≡ numberOfAddress (readAddressVerdict s (length before))
+  pub version-given : version ≡ versionOfAddress (readAddressVerdict s (length before))
+  pub length-given : n ≡ lengthOfAddress (readAddressVerdict s (length before))
+  pub buffer : after ≡ programAfter (readAddressVerdict s (length before)) (programOf s) before
+
+pub address-read-once : (s before : List ℕ) (r r′ : ℕ) (after after′ : List ℕ) (v v′ n n′ : ℕ)
+    → AddressRead s before r after v n → AddressRead s before r′ after′ v′ n′ → (r ≡ r′) × (after ≡ after′) × (v ≡ v′) × (n ≡ n′)
+address-read-once s before r r′ after after′ v v′ n n′ p q = (
+  same (p .number) (q .number),
+  same (p .buffer) (q .buffer),
+  same (p .version-given) (q .version-given),
+  same (p .length-given) (q .length-given),
+)
+
+-- face::pennywax_read
+pub record StringRead (code : ℕ) (s : List ℕ) (r prefix symbols : ℕ) : Type 0 where
+  pub number : r ≡ numberOfReading (codedRead code s)
+  pub prefix-given : prefix ≡ prefixOfReading (codedRead code s)
+  pub symbols-given : symbols ≡ symbolsOfReading (codedRead code s)
+
+pub string-read-once : (code : ℕ) (s : List ℕ) (r r′ m m′ n n′ : ℕ) → StringRead code s r m n → StringRead code s r′ m′ n′ → (r ≡ r′) × (m ≡ m′) × (n ≡ n′)
+string-read-once code s r r′ m m′ n n′ p q =
+    (same (p .number) (q .number), same (p .prefix-given) (q .prefix-given), same (p .symbols-given) (q .symbols-given))
+
+-- face::pennywax_read_bytes
+pub record BytesRead (code : ℕ) (s before : List ℕ) (r : ℕ) (after : List ℕ) (written : ℕ) : Type 0 where
+  pub number : r ≡ numberOfWritten (codedBytes code s (length before))
+  pub written-given : written ≡ countOfWritten (codedBytes code s (length before))
+  pub buffer : after ≡ bufferAfter (codedBytes code s (length before)) (toBytes (payloadSymbols s)) before
+
+pub bytes-read-once : (code : ℕ) (s before : List ℕ) (r r′ : ℕ) (after after′ : List ℕ) (n n′ : ℕ)
+    → BytesRead code s before r after n → BytesRead code s before r′ after′ n′ → (r ≡ r′) × (after ≡ after′) × (n ≡ n′)
+bytes-read-once code s before r r′ after after′ n n′ p q =
+    (same (p .number) (q .number), same (p .buffer) (q .buffer), same (p .written-given) (q .written-given))

@@ -1,0 +1,119 @@
+// Pennywax for callers that know C: numbers and byte slices alone. A slice is two arguments, a pointer and a length. A checksum is a
+// number here, 1 for Bech32 and 2 for Bech32m; any other is refused with 28 before anything else is looked at. Each function gives
+// document 01's number, 0 for accepted; a refusal sets the other results to 0.
+use answers::Address;
+use answers::CHECKSUM_UNKNOWN;
+use answers::Reading;
+use answers::Written;
+use checksum::Checksum;
+ghost use mathlib.Core.Path.{_≡_};
+ghost use Rattle.face.specs.Codes.{codedRead, CodedBytes};
+ghost use Rattle.face.specs.Promises.{AddressChecked, AddressRead, StringRead, BytesRead};
+
+const ACCEPTED: u8 = 0;
+
+const BECH32: u8 = 1;
+
+const BECH32M: u8 = 2;
+
+#[no_mangle]
+pub extern "C" fn pennywax_check_address(s: &[u8], version: &mut u8, length: &mut usize) -> u8
+    ensures { λ r. ⌜ AddressChecked (now (s .entry)) r (now (version .exit)) (now (length .exit)) ⌝ }
+{
+    match decode::check_address(s) {
+        Address::Accepted(v, n) => {
+            *version = v;
+            *length = n;
+            ACCEPTED
+        }
+        Address::Refused(number) => {
+            *version = 0;
+            *length = 0;
+            number
+        }
+    }
+}
+
+#[no_mangle]
+pub extern "C" fn pennywax_read_address(
+    s: &[u8],
+    out: &mut [u8],
+    version: &mut u8,
+    length: &mut usize,
+) -> u8
+    ensures { λ r. ⌜ AddressRead (now (s .entry)) (now (out .entry)) r (now (out .exit)) (now (version .exit)) (now (length .exit)) ⌝ }
+{
+    match decode::read_address(s, out) {
+        Address::Accepted(v, n) => {
+            *version = v;
+            *length = n;
+            ACCEPTED
+        }
+        Address::Refused(number) => {
+            *version = 0;
+            *length = 0;
+            number
+        }
+    }
+}
+
+// Generic reading: how long the prefix is, and how many symbols the data part has with the checksum taken off.
+#[no_mangle]
+pub extern "C" fn pennywax_read(code: u8, s: &[u8], prefix: &mut usize, symbols: &mut usize) -> u8
+    ensures { λ r. ⌜ StringRead code (now (s .entry)) r (now (prefix .exit)) (now (symbols .exit)) ⌝ }
+{
+    match read_coded(code, s) {
+        Reading::Accepted(m, n) => {
+            *prefix = m;
+            *symbols = n;
+            ACCEPTED
+        }
+        Reading::Refused(number) => {
+            *prefix = 0;
+            *symbols = 0;
+            number
+        }
+    }
+}
+
+#[no_mangle]
+pub extern "C" fn pennywax_read_bytes(code: u8, s: &[u8], out: &mut [u8], written: &mut usize) -> u8
+    ensures { λ r. ⌜ BytesRead code (now (s .entry)) (now (out .entry)) r (now (out .exit)) (now (written .exit)) ⌝ }
+{
+    match read_bytes_coded(code, s, out) {
+        Written::Accepted(n) => {
+            *written = n;
+            ACCEPTED
+        }
+        Written::Refused(number) => {
+            *written = 0;
+            number
+        }
+    }
+}
+
+// ---- the code of a checksum taken apart
+
+fn read_coded(code: u8, s: &[u8]) -> Reading
+    ensures { λ r. ⌜ r ≡ codedRead code (now (s .entry)) ⌝ }
+{
+    if code == BECH32 {
+        return decode::read(Checksum::Bech32, s);
+    }
+    if code == BECH32M {
+        return decode::read(Checksum::Bech32m, s);
+    }
+    Reading::Refused(CHECKSUM_UNKNOWN)
+}
+
+fn read_bytes_coded(code: u8, s: &[u8], out: &mut [u8]) -> Written
+    ensures { λ r. ⌜ CodedBytes code (now (s .entry)) (now (out .entry)) r (now (out .exit)) ⌝ }
+{
+    if code == BECH32 {
+        return decode::read_bytes(Checksum::Bech32, s, out);
+    }
+    if code == BECH32M {
+        return decode::read_bytes(Checksum::Bech32m, s, out);
+    }
+    Written::Refused(CHECKSUM_UNKNOWN)
+}
