@@ -1,18 +1,19 @@
 -- Wrong answers that the promises exclude, each on a concrete input: a function that always refuses, one that leaves its results or the buffer alone,
 -- one that takes any code.
 use mathlib.Core.Path.{_≡_, refl, sym, ap, _∙_}
-use mathlib.Core.List.{List}
+use mathlib.Core.List.{List, [], _++_}
 use Prim.Native.Nat.{ℕ, suc}
 use native.Mathlib.Omega.{arith}
 use lib.ListN.{length, getD, replicate}
 use Rattle.laws.specs.Text.{bytes}
 use Rattle.paper.specs.Checksum.{bech32}
-use Rattle.answers.specs.Reading.{addressVerdict, readAddressVerdict, readVerdict, readBytesVerdict, programOf, programAfter}
+use Rattle.answers.specs.Reading.{addressVerdict, readAddressVerdict, readVerdict, readBytesVerdict, programOf, programAfter, bufferAfter}
+use Rattle.answers.specs.declared.Written.{Written}
 use Rattle.answers.specs.declared.Written.the-variants as written
 use Rattle.answers.proofs.Computing.{computing}
-use Rattle.answers.proofs.Cases.{taproot, room-32, abcd-bech32}
-use Rattle.face.specs.Codes.{codedRead, codedBytes, numberOfReading, symbolsOfReading, numberOfWritten, countOfWritten, numberOfAddress, versionOfAddress}
-use Rattle.face.specs.Promises.{AddressChecked, AddressRead, StringRead, BytesRead}
+use Rattle.answers.proofs.Cases.{taproot, room-32, abcd-bech32, write-90, write-version-17}
+use Rattle.face.specs.Codes.{codedRead, codedBytes, codedWrite, codedString, numberOfReading, symbolsOfReading, numberOfWritten, countOfWritten, numberOfAddress, versionOfAddress}
+use Rattle.face.specs.Promises.{AddressChecked, AddressRead, StringRead, BytesRead, SymbolsWritten, BytesWritten, AddressWritten}
 
 abbrev address : List ℕ
 address = bytes "bc1pdp43hj65vxw49rts6kcw35u6r6tgzguyr03vvveeewjqpn05efzq7un9w0"
@@ -66,3 +67,38 @@ read-bytes-not-refused k after n p = let e : suc k ≡ 0 = p .number ∙ ap numb
 pub read-bytes-knows-codes : (after : List ℕ) (n : ℕ) → BytesRead 0 string (replicate 20 0) 0 after n → ⊥
 unfolding codedBytes
 read-bytes-knows-codes after n p = let e : _≡_ {A = ℕ} 0 28 = p .number in omega arith
+
+-- ---- the writers: BIP-173's and BIP-350's shortest strings, and document 01's limits
+
+string-written : codedString 1 (bytes "a") [] ≡ bytes "a12uel5l"
+unfolding computing codedString
+string-written = refl
+
+string-accepted : codedWrite 1 (bytes "a") [] 8 ≡ written.Accepted 8
+unfolding computing codedWrite
+string-accepted = refl
+
+pub write-symbols-not-refused : (k : ℕ) (after : List ℕ) (n : ℕ) → SymbolsWritten 1 (bytes "a") [] (replicate 8 0) (suc k) after n → ⊥
+write-symbols-not-refused k after n p = let e : suc k ≡ 0 = p .number ∙ ap numberOfWritten string-accepted in omega arith
+
+pub write-symbols-writes : (r n : ℕ) → SymbolsWritten 1 (bytes "a") [] (replicate 8 0) r (replicate 8 0) n → ⊥
+write-symbols-writes r n p =
+    let content : replicate 8 0 ≡ bytes "a12uel5l" =
+    p .buffer ∙ ap (λ (v : Written). bufferAfter v (codedString 1 (bytes "a") []) (replicate 8 0)) string-accepted ∙ ap (λ (l : List ℕ). l ++ []) string-written in
+    let e : _≡_ {A = ℕ} 0 97 = ap (λ (l : List ℕ). getD l 0 0) content in
+    omega arith
+
+pub write-bytes-not-refused : (k : ℕ) (after : List ℕ) (n : ℕ) → BytesWritten 1 (bytes "a") [] (replicate 8 0) (suc k) after n → ⊥
+unfolding computing
+write-bytes-not-refused k after n p = let e : suc k ≡ 0 = p .number ∙ ap numberOfWritten string-accepted in omega arith
+
+pub write-bytes-knows-codes : (after : List ℕ) (n : ℕ) → BytesWritten 3 (bytes "a") [] (replicate 8 0) 0 after n → ⊥
+unfolding codedWrite
+write-bytes-knows-codes after n p = let e : _≡_ {A = ℕ} 0 28 = p .number in omega arith
+
+pub write-address-not-refused : (k : ℕ) (after : List ℕ) (n : ℕ)
+    → AddressWritten (replicate 30 97) 1 (replicate 32 0) (replicate 90 0) (suc k) after n → ⊥
+write-address-not-refused k after n p = let e : suc k ≡ 0 = p .number ∙ ap numberOfWritten write-90 in omega arith
+
+pub write-address-version-17 : (after : List ℕ) (n : ℕ) → AddressWritten (bytes "bc") 17 (replicate 2 0) (replicate 90 0) 0 after n → ⊥
+write-address-version-17 after n p = let e : _≡_ {A = ℕ} 0 12 = p .number ∙ ap numberOfWritten write-version-17 in omega arith

@@ -4,7 +4,7 @@ use mathlib.Core.List.{List}
 use Prim.Native.Nat.{ℕ}
 use lib.ListN.{length}
 use borrow.Author.Tests.{eq-eqb, ne-eqb}
-use Rattle.paper.specs.Bits.{toBytes}
+use Rattle.paper.specs.Bits.{toBytes, toSymbols}
 use Rattle.answers.specs.Reading.{payloadSymbols, addressVerdict, readAddressVerdict}
 use Rattle.answers.specs.declared.Reading.{Reading}
 use Rattle.answers.specs.declared.Reading.the-variants as reading
@@ -12,10 +12,13 @@ use Rattle.answers.specs.declared.Written.{Written}
 use Rattle.answers.specs.declared.Written.the-variants as written
 use Rattle.answers.specs.declared.Address.{Address}
 use Rattle.answers.specs.declared.Address.the-variants as address
+use Rattle.checksum.specs.declared.Checksum.{Checksum}
 use Rattle.checksum.specs.declared.Checksum.the-variants.{Bech32, Bech32m}
 use Rattle.decode.specs.Promises.{AddressRead as WasAddressRead, BytesRead as WasBytesRead}
-use Rattle.face.specs.Codes.{codedRead, codedBytes, CodedBytes, numberOfReading, prefixOfReading, symbolsOfReading, numberOfWritten, countOfWritten, numberOfAddress, versionOfAddress, lengthOfAddress}
-use Rattle.face.specs.Promises.{AddressChecked, AddressRead, StringRead, BytesRead}
+use Rattle.encode.specs.Promises.{SymbolsWritten as WasSymbolsWritten, BytesWritten as WasBytesWritten, AddressWritten as WasAddressWritten}
+use Rattle.answers.specs.Writing.{writeBytesVerdict}
+use Rattle.face.specs.Codes.{codedRead, codedBytes, CodedBytes, codedWrite, codedString, CodedWritten, numberOfReading, prefixOfReading, symbolsOfReading, numberOfWritten, countOfWritten, numberOfAddress, versionOfAddress, lengthOfAddress}
+use Rattle.face.specs.Promises.{AddressChecked, AddressRead, StringRead, BytesRead, SymbolsWritten, AddressWritten}
 
 module _ (s : List ℕ) (a : Address) (kept : a ≡ addressVerdict s) where
   pub checked-accepted : (v n : ℕ) → a ≡ address.Accepted v n → AddressChecked s 0 v n
@@ -77,3 +80,48 @@ pub coded-unknown : (code : ℕ) (s before : List ℕ) → (code ≡ 1 → ⊥) 
 unfolding codedBytes
 coded-unknown code s before other neither =
     record { answer = rw (ne-eqb code 1 other, ne-eqb code 2 neither) refl; buffer = rw (ne-eqb code 1 other, ne-eqb code 2 neither) refl }
+
+-- ---- writing
+
+module _ (code : ℕ) (prefix symbols before : List ℕ) (a : Written) (after : List ℕ) (kept : CodedWritten code prefix symbols before a after) where
+  pub written-accepted : (n : ℕ) → a ≡ written.Accepted n → SymbolsWritten code prefix symbols before 0 after n
+  written-accepted n e =
+      let w = sym e ∙ kept .answer in
+      record { number = ap numberOfWritten w; written-given = ap countOfWritten w; buffer = kept .buffer }
+
+  pub written-refused : (k : ℕ) → a ≡ written.Refused k → SymbolsWritten code prefix symbols before k after 0
+  written-refused k e =
+      let w = sym e ∙ kept .answer in
+      record { number = ap numberOfWritten w; written-given = ap countOfWritten w; buffer = kept .buffer }
+
+module _ (prefix : List ℕ) (version : ℕ) (program before : List ℕ) (a : Written) (after : List ℕ) (kept : WasAddressWritten prefix version program before a after) where
+  pub address-written-accepted : (n : ℕ) → a ≡ written.Accepted n → AddressWritten prefix version program before 0 after n
+  address-written-accepted n e =
+      let w = sym e ∙ kept .answer in
+      record { number = ap numberOfWritten w; written-given = ap countOfWritten w; buffer = kept .buffer }
+
+  pub address-written-refused : (k : ℕ) → a ≡ written.Refused k → AddressWritten prefix version program before k after 0
+  address-written-refused k e =
+      let w = sym e ∙ kept .answer in
+      record { number = ap numberOfWritten w; written-given = ap countOfWritten w; buffer = kept .buffer }
+
+module _ (code : ℕ) (prefix symbols before : List ℕ) (a : Written) (after : List ℕ) where
+  pub write-bech32 : code ≡ 1 → WasSymbolsWritten Bech32 prefix symbols before a after → CodedWritten code prefix symbols before a after
+  unfolding codedWrite codedString
+  write-bech32 e kept = record { answer = rw (eq-eqb code 1 e) (kept .answer); buffer = rw (eq-eqb code 1 e) (kept .buffer) }
+
+  pub write-bech32m : (code ≡ 1 → ⊥) → code ≡ 2 → WasSymbolsWritten Bech32m prefix symbols before a after → CodedWritten code prefix symbols before a after
+  unfolding codedWrite codedString
+  write-bech32m other e kept =
+      record { answer = rw (ne-eqb code 1 other, eq-eqb code 2 e) (kept .answer); buffer = rw (ne-eqb code 1 other, eq-eqb code 2 e) (kept .buffer) }
+
+pub write-unknown : (code : ℕ) (prefix symbols before : List ℕ) → (code ≡ 1 → ⊥) → (code ≡ 2 → ⊥) → CodedWritten code prefix symbols before (written.Refused 28) before
+unfolding codedWrite codedString
+write-unknown code prefix symbols before other neither =
+    record { answer = rw (ne-eqb code 1 other, ne-eqb code 2 neither) refl; buffer = rw (ne-eqb code 1 other, ne-eqb code 2 neither) refl }
+
+-- what is promised of bytes is promised of their symbols
+pub bytes-as-symbols : (checksum : Checksum) (prefix bytes before : List ℕ) (a : Written) (after : List ℕ)
+    → WasBytesWritten checksum prefix bytes before a after → WasSymbolsWritten checksum prefix (toSymbols bytes) before a after
+unfolding writeBytesVerdict
+bytes-as-symbols checksum prefix bytes before a after kept = record { answer = kept .answer; buffer = kept .buffer }

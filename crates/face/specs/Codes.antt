@@ -1,6 +1,6 @@
 -- Document 01, answer 28: where a checksum is a number, 1 is Bech32 and 2 is Bech32m; any other is refused before all else.
 use mathlib.Core.Path.{_≡_}
-use mathlib.Core.List.{List}
+use mathlib.Core.List.{List, []}
 use Prim.Native.Nat.{ℕ}
 use lib.Dec.{eqb}
 use lib.ListN.{length}
@@ -8,6 +8,7 @@ use Rattle.laws.specs.Pick.{pick}
 use Rattle.paper.specs.Checksum.{bech32, bech32m}
 use Rattle.paper.specs.Bits.{toBytes}
 use Rattle.answers.specs.Reading.{payloadSymbols, readVerdict, readBytesVerdict, bufferAfter}
+use Rattle.answers.specs.Writing.{writtenString, writeVerdict}
 use Rattle.answers.specs.declared.Reading.{Reading}
 use Rattle.answers.specs.declared.Reading.the-variants as reading
 use Rattle.answers.specs.declared.Written.{Written}
@@ -28,6 +29,17 @@ codedBytes code s room = byCode code (λ constant. readBytesVerdict constant s r
 pub record CodedBytes (code : ℕ) (s before : List ℕ) (r : Written) (after : List ℕ) : Type 0 where
   pub answer : r ≡ codedBytes code s (length before)
   pub buffer : after ≡ bufferAfter (codedBytes code s (length before)) (toBytes (payloadSymbols s)) before
+
+unfoldable pub codedWrite : ℕ → List ℕ → List ℕ → ℕ → Written
+codedWrite code prefix symbols room = byCode code (λ constant. writeVerdict constant prefix symbols room) (written.Refused 28)
+
+-- the string of a code's checksum; none is written under an unknown code
+unfoldable pub codedString : ℕ → List ℕ → List ℕ → List ℕ
+codedString code prefix symbols = byCode code (λ constant. writtenString constant prefix symbols) []
+
+pub record CodedWritten (code : ℕ) (prefix symbols before : List ℕ) (r : Written) (after : List ℕ) : Type 0 where
+  pub answer : r ≡ codedWrite code prefix symbols (length before)
+  pub buffer : after ≡ bufferAfter (codedWrite code prefix symbols (length before)) (codedString code prefix symbols) before
 
 -- ---- an answer as numbers: 0 for accepted, or the refusal's; and the other results, 0 on a refusal
 

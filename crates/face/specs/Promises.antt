@@ -4,9 +4,10 @@ use mathlib.Core.List.{List}
 use Prim.Native.Nat.{ℕ}
 use lib.ListN.{length}
 use Rattle.laws.proofs.Bools.{same}
-use Rattle.paper.specs.Bits.{toBytes}
+use Rattle.paper.specs.Bits.{toBytes, toSymbols}
 use Rattle.answers.specs.Reading.{payloadSymbols, programOf, addressVerdict, readAddressVerdict, programAfter, bufferAfter}
-use Rattle.face.specs.Codes.{codedRead, codedBytes, numberOfReading, prefixOfReading, symbolsOfReading, numberOfWritten, countOfWritten, numberOfAddress, versionOfAddress, lengthOfAddress}
+use Rattle.answers.specs.Writing.{writtenAddress, writeAddressVerdict}
+use Rattle.face.specs.Codes.{codedRead, codedBytes, codedWrite, codedString, numberOfReading, prefixOfReading, symbolsOfReading, numberOfWritten, countOfWritten, numberOfAddress, versionOfAddress, lengthOfAddress}
 
 -- face::pennywax_check_address
 pub record AddressChecked (s : List ℕ) (r version n : ℕ) : Type 0 where
@@ -53,4 +54,34 @@ pub record BytesRead (code : ℕ) (s before : List ℕ) (r : ℕ) (after : List 
 pub bytes-read-once : (code : ℕ) (s before : List ℕ) (r r′ : ℕ) (after after′ : List ℕ) (n n′ : ℕ)
     → BytesRead code s before r after n → BytesRead code s before r′ after′ n′ → (r ≡ r′) × (after ≡ after′) × (n ≡ n′)
 bytes-read-once code s before r r′ after after′ n n′ p q =
+    (same (p .number) (q .number), same (p .buffer) (q .buffer), same (p .written-given) (q .written-given))
+
+-- face::pennywax_write_symbols
+pub record SymbolsWritten (code : ℕ) (prefix symbols before : List ℕ) (r : ℕ) (after : List ℕ) (written : ℕ) : Type 0 where
+  pub number : r ≡ numberOfWritten (codedWrite code prefix symbols (length before))
+  pub written-given : written ≡ countOfWritten (codedWrite code prefix symbols (length before))
+  pub buffer : after ≡ bufferAfter (codedWrite code prefix symbols (length before)) (codedString code prefix symbols) before
+
+pub symbols-written-once : (code : ℕ) (prefix symbols before : List ℕ) (r r′ : ℕ) (after after′ : List ℕ) (n n′ : ℕ)
+    → SymbolsWritten code prefix symbols before r after n → SymbolsWritten code prefix symbols before r′ after′ n′ → (r ≡ r′) × (after ≡ after′) × (n ≡ n′)
+symbols-written-once code prefix symbols before r r′ after after′ n n′ p q =
+    (same (p .number) (q .number), same (p .buffer) (q .buffer), same (p .written-given) (q .written-given))
+
+-- face::pennywax_write_bytes: the symbols of the bytes
+abbrev pub BytesWritten : ℕ → List ℕ → List ℕ → List ℕ → ℕ → List ℕ → ℕ → Type 0
+BytesWritten code prefix bytes before r after n = SymbolsWritten code prefix (toSymbols bytes) before r after n
+
+pub bytes-written-once : (code : ℕ) (prefix bytes before : List ℕ) (r r′ : ℕ) (after after′ : List ℕ) (n n′ : ℕ)
+    → BytesWritten code prefix bytes before r after n → BytesWritten code prefix bytes before r′ after′ n′ → (r ≡ r′) × (after ≡ after′) × (n ≡ n′)
+bytes-written-once code prefix bytes before = symbols-written-once code prefix (toSymbols bytes) before
+
+-- face::pennywax_write_address
+pub record AddressWritten (prefix : List ℕ) (version : ℕ) (program before : List ℕ) (r : ℕ) (after : List ℕ) (written : ℕ) : Type 0 where
+  pub number : r ≡ numberOfWritten (writeAddressVerdict prefix version program (length before))
+  pub written-given : written ≡ countOfWritten (writeAddressVerdict prefix version program (length before))
+  pub buffer : after ≡ bufferAfter (writeAddressVerdict prefix version program (length before)) (writtenAddress prefix version program) before
+
+pub address-written-once : (prefix : List ℕ) (version : ℕ) (program before : List ℕ) (r r′ : ℕ) (after after′ : List ℕ) (n n′ : ℕ)
+    → AddressWritten prefix version program before r after n → AddressWritten prefix version program before r′ after′ n′ → (r ≡ r′) × (after ≡ after′) × (n ≡ n′)
+address-written-once prefix version program before r r′ after after′ n n′ p q =
     (same (p .number) (q .number), same (p .buffer) (q .buffer), same (p .written-given) (q .written-given))

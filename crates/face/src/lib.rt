@@ -7,8 +7,9 @@ use answers::Reading;
 use answers::Written;
 use checksum::Checksum;
 ghost use mathlib.Core.Path.{_≡_};
-ghost use Rattle.face.specs.Codes.{codedRead, CodedBytes};
-ghost use Rattle.face.specs.Promises.{AddressChecked, AddressRead, StringRead, BytesRead};
+ghost use Rattle.paper.specs.Bits.{toSymbols};
+ghost use Rattle.face.specs.Codes.{codedRead, CodedBytes, CodedWritten};
+ghost use Rattle.face.specs.Promises.{AddressChecked, AddressRead, StringRead, BytesRead, SymbolsWritten, BytesWritten, AddressWritten};
 
 const ACCEPTED: u8 = 0;
 
@@ -92,6 +93,72 @@ pub extern "C" fn pennywax_read_bytes(code: u8, s: &[u8], out: &mut [u8], writte
     }
 }
 
+#[no_mangle]
+pub extern "C" fn pennywax_write_symbols(
+    code: u8,
+    prefix: &[u8],
+    symbols: &[u8],
+    out: &mut [u8],
+    written: &mut usize,
+) -> u8
+    ensures { λ r. ⌜ SymbolsWritten code (now (prefix .entry)) (now (symbols .entry)) (now (out .entry)) r (now (out .exit)) (now (written .exit)) ⌝ }
+{
+    match write_symbols_coded(code, prefix, symbols, out) {
+        Written::Accepted(n) => {
+            *written = n;
+            ACCEPTED
+        }
+        Written::Refused(number) => {
+            *written = 0;
+            number
+        }
+    }
+}
+
+#[no_mangle]
+pub extern "C" fn pennywax_write_bytes(
+    code: u8,
+    prefix: &[u8],
+    bytes: &[u8],
+    out: &mut [u8],
+    written: &mut usize,
+) -> u8
+    ensures { λ r. ⌜ BytesWritten code (now (prefix .entry)) (now (bytes .entry)) (now (out .entry)) r (now (out .exit)) (now (written .exit)) ⌝ }
+{
+    match write_bytes_coded(code, prefix, bytes, out) {
+        Written::Accepted(n) => {
+            *written = n;
+            ACCEPTED
+        }
+        Written::Refused(number) => {
+            *written = 0;
+            number
+        }
+    }
+}
+
+#[no_mangle]
+pub extern "C" fn pennywax_write_address(
+    prefix: &[u8],
+    version: u8,
+    program: &[u8],
+    out: &mut [u8],
+    written: &mut usize,
+) -> u8
+    ensures { λ r. ⌜ AddressWritten (now (prefix .entry)) version (now (program .entry)) (now (out .entry)) r (now (out .exit)) (now (written .exit)) ⌝ }
+{
+    match encode::write_address(prefix, version, program, out) {
+        Written::Accepted(n) => {
+            *written = n;
+            ACCEPTED
+        }
+        Written::Refused(number) => {
+            *written = 0;
+            number
+        }
+    }
+}
+
 // ---- the code of a checksum taken apart
 
 fn read_coded(code: u8, s: &[u8]) -> Reading
@@ -114,6 +181,30 @@ fn read_bytes_coded(code: u8, s: &[u8], out: &mut [u8]) -> Written
     }
     if code == BECH32M {
         return decode::read_bytes(Checksum::Bech32m, s, out);
+    }
+    Written::Refused(CHECKSUM_UNKNOWN)
+}
+
+fn write_symbols_coded(code: u8, prefix: &[u8], symbols: &[u8], out: &mut [u8]) -> Written
+    ensures { λ r. ⌜ CodedWritten code (now (prefix .entry)) (now (symbols .entry)) (now (out .entry)) r (now (out .exit)) ⌝ }
+{
+    if code == BECH32 {
+        return encode::write_symbols(Checksum::Bech32, prefix, symbols, out);
+    }
+    if code == BECH32M {
+        return encode::write_symbols(Checksum::Bech32m, prefix, symbols, out);
+    }
+    Written::Refused(CHECKSUM_UNKNOWN)
+}
+
+fn write_bytes_coded(code: u8, prefix: &[u8], bytes: &[u8], out: &mut [u8]) -> Written
+    ensures { λ r. ⌜ CodedWritten code (now (prefix .entry)) (toSymbols (now (bytes .entry))) (now (out .entry)) r (now (out .exit)) ⌝ }
+{
+    if code == BECH32 {
+        return encode::write_bytes(Checksum::Bech32, prefix, bytes, out);
+    }
+    if code == BECH32M {
+        return encode::write_bytes(Checksum::Bech32m, prefix, bytes, out);
     }
     Written::Refused(CHECKSUM_UNKNOWN)
 }
