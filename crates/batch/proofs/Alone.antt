@@ -1,20 +1,49 @@
--- Entries of a batch do not affect one another: each is judged as it would be alone, and what stands behind the list is kept.
+-- Entries of a batch do not affect one another: each is judged as it would be alone, in either form, what stands behind a list by value is kept, and the two forms
+-- give the same entries.
 use mathlib.Core.Path.{_≡_, refl, ap, sym, _∙_}
 use mathlib.Core.List.{List, [], _∷_, _++_, map}
 use Prim.Native.Nat.{ℕ, zero, suc, _+_, _<_, _≤_}
 use native.Mathlib.Nat.{not-suc-le-zero, le-of-suc-le-suc}
 use native.Mathlib.Omega.{arith}
+use borrow.Author.Tests.{le-ltb}
 use lib.ListN.{length, take, drop, getD, replicate, length-map}
-use lib.Seq.{length-take-le, drop-at}
+use lib.Seq.{length-take-le, take-at, drop-at, take-length, drop-length}
 use Rattle.laws.specs.Text.{bytes}
-use Rattle.answers.specs.Batch.{entryVerdict, judged}
+use Rattle.laws.proofs.Bools.{same}
+use Rattle.answers.specs.Batch.{entryVerdict, judged, batchVerdict, entriesAfter}
+use Rattle.answers.specs.declared.Verdict.{Verdict}
+use Rattle.answers.specs.declared.Verdict.the-variants as verdict
 use Rattle.answers.specs.declared.Entry.{Entry}
 use Rattle.answers.proofs.Computing.{computing}
 use Rattle.batch.specs.ByValue.{entriesOf, countVerdict, judgedAll}
-use Rattle.batch.specs.Promises.{AllJudged}
+use Rattle.batch.specs.Promises.{BatchJudged, AllJudged}
 use Rattle.batch.specs.declared.Batch.{Batch}
 use Rattle.batch.specs.declared.Judged.{Judged}
 use Rattle.batch.proofs.Turns.{none, count-accepted}
+
+-- ---- the list that is lent
+
+few-accepted : (before : List Entry) → length before ≤ 32 → batchVerdict before ≡ verdict.Accepted
+unfolding batchVerdict
+few-accepted before h = rw (le-ltb 32 (length before) h)
+
+-- the element at i of a mapped list
+map-at : (z : Entry) (f : Entry → Entry) (l : List Entry) (i : ℕ) → i < length l → getD (map f l) i z ≡ f (getD l i z)
+map-at z f [] i h = absurd (not-suc-le-zero h)
+map-at z f (x ∷ l) zero h = refl
+map-at z f (x ∷ l) (suc i) h = map-at z f l i (le-of-suc-le-suc h)
+
+module _ (buffer : List ℕ) (before : List Entry) (r : Verdict) (after : List Entry) (is : BatchJudged buffer before r after) (few : length before ≤ 32) where
+  pub lent-accepted : r ≡ verdict.Accepted
+  lent-accepted = is .answer ∙ few-accepted before few
+
+  pub lent-all : after ≡ map (judged buffer) before
+  lent-all = is .entries ∙ ap (λ v. entriesAfter v buffer before) (few-accepted before few)
+
+  pub lent-alone : (i : ℕ) → i < length before → getD after i none ≡ judged buffer (getD before i none)
+  lent-alone i h = ap (λ l. getD l i none) lent-all ∙ map-at none (judged buffer) before i h
+
+-- ---- the list by value
 
 -- the element at i of a list whose first part is mapped
 map-front : (z : Entry) (f : Entry → Entry) (l : List Entry) (n i : ℕ) → i < n → n ≤ length l
@@ -38,15 +67,61 @@ module _ (buffer : List ℕ) (b : Batch) (r : Judged) (is : AllJudged buffer b r
       ∙ drop-at (map (judged buffer) (entriesOf b)) (drop (b .count) (b .entries)) (b .count)
       (length-map (entriesOf b) (judged buffer) ∙ length-take-le (b .count) (b .entries) enough)
 
--- ---- a wrong answer ruled out: an entry outside the buffer does not stop the batch
+-- ---- the two forms: a list judged by value is the list judged where it lies
+
+after-length : (v : Verdict) (buffer : List ℕ) (l : List Entry) → length (entriesAfter v buffer l) ≡ length l
+after-length verdict.Accepted buffer l = length-map l (judged buffer)
+after-length (verdict.Refused n) buffer l = refl
+
+counted : (l : List Entry) → batchVerdict l ≡ countVerdict (length l)
+unfolding batchVerdict countVerdict
+counted l = refl
+
+module _ (buffer : List ℕ) (b : Batch) (enough : b .count ≤ length (b .entries)) where
+  list-length : length (entriesOf b) ≡ b .count
+  list-length = length-take-le (b .count) (b .entries) enough
+
+  same-verdict : countVerdict (b .count) ≡ batchVerdict (entriesOf b)
+  same-verdict = ap countVerdict (sym list-length) ∙ sym (counted (entriesOf b))
+
+  same-entries : take (b .count) (entriesAfter (countVerdict (b .count)) buffer (entriesOf b) ++ drop (b .count) (b .entries))
+      ≡ entriesAfter (batchVerdict (entriesOf b)) buffer (entriesOf b)
+  same-entries =
+      take-at (entriesAfter (countVerdict (b .count)) buffer (entriesOf b)) (drop (b .count) (b .entries)) (b .count)
+      (after-length (countVerdict (b .count)) buffer (entriesOf b) ∙ list-length)
+      ∙ ap (λ v. entriesAfter v buffer (entriesOf b)) same-verdict
+
+  pub forms-agree : (r : Judged) (v : Verdict) (after : List Entry) → AllJudged buffer b r → BatchJudged buffer (entriesOf b) v after
+      → (r .verdict ≡ v) × (entriesOf (r .batch) ≡ after)
+  unfolding judgedAll
+  forms-agree r v after p q =
+      (ap (λ j. j .verdict) p ∙ same-verdict ∙ sym (q .answer), ap (λ j. entriesOf (j .batch)) p ∙ same-entries ∙ sym (q .entries))
+
+-- ---- wrong answers ruled out: an entry outside the buffer does not stop the batch, and 33 entries are refused
 
 unfoldable pub taproot-text : List ℕ
 taproot-text = bytes "bc1pdp43hj65vxw49rts6kcw35u6r6tgzguyr03vvveeewjqpn05efzq7un9w0"
 
-abbrev pub outside-first : Batch
-outside-first = record { entries = record { start = 1; len = 62; verdict = 0; version = 0; program = 0 } ∷ record { start = 0; len = 62; verdict = 99; version = 99; program = 99 } ∷ replicate 30 none; count = 2 }
+-- the first reaches one byte too far, the second is the whole text; what their results held before is overwritten
+abbrev pub two-entries : List Entry
+two-entries = record { start = 1; len = 62; verdict = 0; version = 1; program = 32 } ∷ record { start = 0; len = 62; verdict = 99; version = 99; program = 99 } ∷ []
 
-pub not-stopped-by-20 : (r : Judged) → AllJudged taproot-text outside-first r
-    → (getD (r .batch .entries) 0 none .verdict ≡ 20) × (getD (r .batch .entries) 1 none ≡ record { start = 0; len = 62; verdict = 0; version = 1; program = 32 })
+abbrev pub two-judged : List Entry
+two-judged = record { start = 1; len = 62; verdict = 20; version = 0; program = 0 } ∷ record { start = 0; len = 62; verdict = 0; version = 1; program = 32 } ∷ []
+
+two-computed : map (judged taproot-text) two-entries ≡ two-judged
+unfolding computing entryVerdict judged taproot-text
+two-computed = refl
+
+pub not-stopped-by-20 : (r : Verdict) (after : List Entry) → BatchJudged taproot-text two-entries r after → after ≡ two-judged
+not-stopped-by-20 r after is = lent-all taproot-text two-entries r after is (omega arith) ∙ two-computed
+
+pub not-stopped-by-value : (rest : List Entry) (r : Judged) → AllJudged taproot-text (record { entries = two-entries ++ rest; count = 2 }) r
+    → r .batch .entries ≡ two-judged ++ rest
 unfolding computing judgedAll countVerdict entryVerdict judged taproot-text
-not-stopped-by-20 r is = rw is (refl, refl)
+not-stopped-by-value rest r is = rw is refl
+
+pub thirty-three-refused : (buffer : List ℕ) (e : Entry) (r : Verdict) (after : List Entry) → BatchJudged buffer (replicate 33 e) r after
+    → (r ≡ verdict.Refused 19) × (after ≡ replicate 33 e)
+unfolding batchVerdict
+thirty-three-refused buffer e r after is = (is .answer, is .entries)

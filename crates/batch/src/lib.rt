@@ -1,4 +1,5 @@
-// Many addresses in one buffer, each judged for itself: document 01's module 11, the batch. A list comes by value, as an array with a count.
+// Many addresses in one buffer, each judged for itself: document 01's module 11, the batch. A list is lent, or comes by value as
+// an array with a count.
 use answers::Address;
 use answers::BATCH_LONG;
 use answers::ENTRY_OUTSIDE;
@@ -6,7 +7,7 @@ use answers::Entry;
 use answers::Verdict;
 ghost use mathlib.Core.Path.{_≡_};
 ghost use Rattle.answers.specs.Batch.{entryVerdict, judgedAs};
-ghost use Rattle.batch.specs.Promises.{EntryJudged, AllJudged};
+ghost use Rattle.batch.specs.Promises.{EntryJudged, BatchJudged, AllJudged};
 
 pub const MAX_ENTRIES: usize = 32;
 
@@ -65,7 +66,23 @@ fn with_results(entry: Entry, verdict: u8, version: u8, program: usize) -> Entry
     }
 }
 
-// Each entry of the list judged in its place.
+// Each entry of the lent list judged in its place.
+pub fn judge_batch(buffer: &[u8], entries: &mut [Entry]) -> Verdict
+    ensures { λ r. ⌜ BatchJudged (now (buffer .entry)) (now (entries .entry)) r (now (entries .exit)) ⌝ }
+{
+    if MAX_ENTRIES < entries.len() {
+        return Verdict::Refused(BATCH_LONG);
+    }
+    let mut i = 0;
+    while i < entries.len() {
+        let entry = entries[i];
+        entries[i] = judge(buffer, entry);
+        i += 1;
+    }
+    Verdict::Accepted
+}
+
+// The same for a list by value.
 pub fn judge_all(buffer: &[u8], batch: Batch) -> Judged
     ensures { λ r. ⌜ AllJudged (now (buffer .entry)) batch r ⌝ }
 {

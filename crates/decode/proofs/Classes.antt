@@ -1,6 +1,6 @@
 -- Classes joined by `|`: a bit of the join is set exactly if some character has it. One law for every bit, and one computed test over the
 -- 256 bytes for what the bits of a class are.
-use mathlib.Core.Path.{_≡_, refl, sym, ap, ap₂, _∙_}
+use mathlib.Core.Path.{_≡_, refl, ap, ap₂, _∙_}
 use mathlib.Core.Bool.{Bool, true, false, not, _&&_, _||_}
 use mathlib.Core.List.{List, [], _∷_, _++_}
 use Prim.Native.Nat.{ℕ, zero, suc, _/_, _%_, _^_, _<_}
@@ -8,7 +8,7 @@ use native.Mathlib.Omega.{arith}
 use lib.Dec.{T, eqb}
 use lib.ListN.{getD}
 use lib.Bits.{bitOr, or-shr, or-mod}
-use Rattle.laws.specs.Lists.{any, all, table, allBelow}
+use Rattle.laws.specs.Lists.{any, all, table}
 use Rattle.laws.proofs.Below.{below}
 use Rattle.laws.proofs.Tables.{tabulated}
 use Rattle.laws.proofs.Xor.{digit}

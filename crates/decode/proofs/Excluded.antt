@@ -1,14 +1,11 @@
 -- Wrong answers that no small edit makes: for each a concrete string on which the promise excludes it.
-use mathlib.Core.Path.{_≡_, refl, sym, ap, _∙_}
-use mathlib.Core.List.{List, [], _∷_}
+use mathlib.Core.Path.{_≡_, refl, ap, _∙_}
+use mathlib.Core.List.{List, []}
 use Prim.Native.Nat.{ℕ}
 use native.Mathlib.Omega.{arith}
 use lib.ListN.{length, getD, replicate}
 use borrow.Author.Tests.{eqb-false}
 use Rattle.laws.specs.Text.{bytes}
-use Rattle.paper.specs.Bits.{toBytes}
-use Rattle.answers.specs.Reading.{payload, payloadSymbols, programOf, readVerdict, partOf, readBytesVerdict, bufferAfter, readAddressVerdict, programAfter}
-use Rattle.answers.specs.declared.Reading.{Reading}
 use Rattle.answers.specs.declared.Reading.the-variants as reading
 use Rattle.answers.specs.declared.Written.the-variants as written
 use Rattle.answers.specs.declared.Address.the-variants as address

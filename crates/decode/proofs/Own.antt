@@ -1,19 +1,17 @@
 -- The record that `split` gives for a string names the string's own parts: what the functions on records say of it is what `answers` says of
 -- the string.
-use mathlib.Core.Path.{_≡_, refl, sym, ap, ap₂, subst, _∙_}
-use mathlib.Core.Bool.{Bool, true, false, not}
+use mathlib.Core.Path.{_≡_, sym, ap, _∙_}
+use mathlib.Core.Bool.{true, false}
 use mathlib.Core.List.{List, [], _∷_, _++_, map}
 use Prim.Native.Nat.{ℕ, _+_, _-_}
 use native.Mathlib.Omega.{arith}
-use lib.Dec.{eqb}
-use lib.ListN.{length, take, drop, getD, length-append}
+use lib.ListN.{length, take, drop, length-append}
 use lib.Seq.{take-append-seam, drop-append-add}
 use borrow.Author.Tests.{eq-eqb, not-false}
 use Rattle.laws.specs.Lists.{any}
 use Rattle.laws.proofs.Lists.{map-drop}
 use Rattle.paper.specs.Charset.{isSeparator, symbol}
-use Rattle.paper.specs.Checksum.{residue}
-use Rattle.answers.specs.Order.{Rule, _gives_, firstOf, NoneApplies}
+use Rattle.answers.specs.Order.{_gives_, firstOf, NoneApplies}
 use Rattle.answers.specs.Rules.{versionUnknown}
 use Rattle.answers.specs.Reading.{stringRules, dataPart, prefixPart, payload, payloadSymbols, versionOf, programSymbols, separatorMissing, longerThan, dataShort, checksumWrong, dataMissing}
 use Rattle.answers.specs.declared.Verdict.the-variants as verdict
@@ -21,7 +19,6 @@ use Rattle.answers.proofs.Orders.{accepted-only}
 use Rattle.answers.proofs.Split.{whole-string}
 use Rattle.decode.specs.Splitting.{partsOf, splitVerdict, belongs, prefixIn, dataIn, payloadIn, programIn, versionIn, checkIn}
 use Rattle.decode.specs.declared.Parts.{Parts}
-use Rattle.decode.specs.declared.Parted.{Parted}
 use Rattle.decode.specs.declared.Parted.the-variants as parted
 use Rattle.decode.specs.declared.Version.the-variants as version
 

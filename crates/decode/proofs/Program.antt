@@ -1,26 +1,25 @@
 -- The characters of an accepted address's program, found from the end of the string: six of them are the checksum's, and the program's own
 -- are as many as its bytes need, since padding is at most four bits.
-use mathlib.Core.Path.{_≡_, refl, sym, ap, ap₂, _∙_}
+use mathlib.Core.Path.{_≡_, refl, sym, ap, _∙_}
 use mathlib.Core.Bool.{false}
 use mathlib.Core.List.{List, [], _∷_, map}
-use Prim.Native.Nat.{ℕ, zero, suc, _+_, _-_, _*_, _/_, _%_, _≤_}
+use Prim.Native.Nat.{ℕ, suc, _+_, _-_, _*_, _/_, _%_, _≤_}
 use native.Mathlib.Omega.{arith}
 use lib.Dec.{ltb}
 use lib.ListN.{length, take, drop, length-map, length-drop}
 use lib.Seq.{drop-drop, take-nil}
 use borrow.Author.Tests.{ltb-false, eqb-false}
 use Rattle.laws.proofs.Lists.{map-drop}
-use Rattle.laws.proofs.Bools.{or-second}
+use Rattle.laws.proofs.Bools.{or-first, or-second}
 use Rattle.paper.specs.Charset.{symbol}
 use Rattle.paper.specs.Bits.{toBytes, padding}
-use Rattle.answers.specs.Order.{NoneApplies}
 use Rattle.answers.specs.Rules.{paddingLong}
-use Rattle.answers.specs.Reading.{dataPart, prefixPart, payload, payloadSymbols, programSymbols, programOf, addressRules, addressVerdict, separatorMissing, payloadMissing, dataShort}
+use Rattle.answers.specs.Reading.{dataPart, prefixPart, payload, payloadSymbols, versionOf, programSymbols, programOf, addressVerdict, separatorMissing, payloadMissing}
 use Rattle.answers.specs.declared.Address.the-variants as address
 use Rattle.iter.proofs.Lengths.{bytes-length, padding-length}
 use Rattle.decode.proofs.Own.{own-length, own-back}
 use Rattle.decode.proofs.Generic.{payload-length}
-use Rattle.decode.proofs.Rooms.{address-rules, address-length}
+use Rattle.decode.proofs.Rooms.{address-rules, address-version, address-length}
 
 -- one place further on, of a part that ends where it did
 later : (k : ℕ) (l : List ℕ) → take k (drop 1 l) ≡ drop 1 (take (suc k) l)
@@ -52,13 +51,20 @@ module _ (s : List ℕ) (v n : ℕ) (read : address.Accepted v n ≡ addressVerd
       (rw (padding-length (programSymbols s)) at (ltb-false 4 (length (padding (programSymbols s))) (address-rules s v n read .1 .1 .1 .1 .1 .1 .1 .1 .1 .1 .1 .1 .0)))
       ∙ symbols-length
 
+  -- how large the numbers of the answer are
+  pub address-small : (v ≤ 16) × ((2 ≤ n) × (n ≤ 40))
+  address-small =
+      let wrong = address-rules s v n read .1 .1 .1 .1 .1 .1 .1 .1 .1 .1 .1 .1 .1 .1 .0 in (
+        rw (address-version s v n read) (ltb-false 16 (versionOf s) (address-rules s v n read .1 .1 .1 .1 .1 .1 .1 .1 .0)),
+        (
+          rw (address-length s v n read) (ltb-false (length (programOf s)) 2 (or-first (ltb (length (programOf s)) 2) (ltb 40 (length (programOf s))) wrong)),
+          rw (address-length s v n read) (ltb-false 40 (length (programOf s)) (or-second (ltb (length (programOf s)) 2) (ltb 40 (length (programOf s))) wrong)),
+        ),
+      )
+
   -- what `program_part` asks
   pub program-fits : (n ≤ 40) × ((n * 8 + 4) / 5 + 6 ≤ length s)
-  program-fits = (
-    rw (address-length s v n read)
-        (ltb-false 40 (length (programOf s)) (or-second (ltb (length (programOf s)) 2) (ltb 40 (length (programOf s))) (address-rules s v n read .1 .1 .1 .1 .1 .1 .1 .1 .1 .1 .1 .1 .1 .1 .0))),
-    let seven : 7 ≤ length (dataPart s) = payload-there in omega (arith, program-count, own-length s present),
-  )
+  program-fits = (address-small .1 .1, let seven : 7 ≤ length (dataPart s) = payload-there in omega (arith, program-count, own-length s present))
 
   -- and what it finds
   pub program-found : toBytes (map symbol (take ((n * 8 + 4) / 5) (drop (length s - 6 - (n * 8 + 4) / 5) s))) ≡ programOf s

@@ -1,13 +1,13 @@
 -- Reading into a lent buffer: a refusal of the reading is the answer and leaves the buffer; an accepted one is written as `iter` writes it,
 -- which is refused with 17 exactly if the room is too small.
-use mathlib.Core.Path.{_≡_, refl, sym, ap, ap₂, subst, _∙_}
+use mathlib.Core.Path.{_≡_, sym, ap, subst, _∙_}
 use mathlib.Core.List.{List, [], _∷_, _++_, map}
 use Prim.Native.Nat.{ℕ, _≤_, _<_}
-use lib.ListN.{length, drop}
+use lib.ListN.{length}
 use borrow.Author.Tests.{lt-ltb, le-ltb}
 use Rattle.paper.specs.Charset.{symbol}
 use Rattle.paper.specs.Bits.{toBytes}
-use Rattle.answers.specs.Order.{Rule, _gives_, firstOf, NoneApplies}
+use Rattle.answers.specs.Order.{_gives_, firstOf, NoneApplies}
 use Rattle.answers.specs.Reading.{prefixPart, payload, payloadSymbols, versionOf, programOf, roomSmall, readingRules, addressRules, readVerdict, readBytesVerdict, bufferAfter, addressVerdict, readAddressVerdict, programAfter}
 use Rattle.answers.specs.declared.Reading.the-variants as reading
 use Rattle.answers.specs.declared.Written.{Written}
@@ -102,8 +102,8 @@ module _ (s : List ℕ) (v n : ℕ) (read : address.Accepted v n ≡ addressVerd
   pub address-rules : NoneApplies (addressRules s)
   address-rules = accepted .0
 
-  version-is : v ≡ versionOf s
-  version-is = let same : address.Accepted (versionOf s) (length (programOf s)) ≡ address.Accepted v n = accepted .1 in cc
+  pub address-version : v ≡ versionOf s
+  address-version = let same : address.Accepted (versionOf s) (length (programOf s)) ≡ address.Accepted v n = accepted .1 in cc
 
   pub address-length : n ≡ length (programOf s)
   address-length = let same : address.Accepted (versionOf s) (length (programOf s)) ≡ address.Accepted v n = accepted .1 in cc
@@ -141,4 +141,4 @@ module _ (s before : List ℕ) where
         }
       where
         verdict : address.Accepted v n ≡ readAddressVerdict s (length before)
-        verdict = ap (λ (w : ℕ). address.Accepted w n) (version-is s v n read) ∙ (rw (← address-length s v n read, le-ltb (length before) n h) at room-decides)
+        verdict = ap (λ (w : ℕ). address.Accepted w n) (address-version s v n read) ∙ (rw (← address-length s v n read, le-ltb (length before) n h) at room-decides)

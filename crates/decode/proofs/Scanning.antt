@@ -1,15 +1,13 @@
 -- What the scan from the end has found when it stops: at the last separator, or, where there is none, at the start.
 use mathlib.Core.Path.{_≡_, refl, sym, ap, ap₂, subst, _∙_}
-use mathlib.Core.Bool.{Bool, true, false, not, _&&_, _||_}
+use mathlib.Core.Bool.{Bool, true, false, not, _&&_}
 use mathlib.Core.List.{List, [], _∷_, _++_}
 use Prim.Native.Nat.{ℕ, suc, _-_, _≤_, _<_}
 use native.Mathlib.Omega.{arith}
-use lib.Dec.{eqb}
 use lib.ListN.{length, take, drop, getD}
 use lib.Bits.{bitOr}
 use lib.Seq.{drop-cons, drop-length, split-at}
 use borrow.Author.Tests.{eq-eqb, ne-eqb}
-use Rattle.laws.specs.Pick.{pick}
 use Rattle.laws.specs.Lists.{any, all}
 use Rattle.laws.proofs.Bools.{or-first, or-second}
 use Rattle.paper.specs.Charset.{isSeparator, isPrintable}
@@ -17,8 +15,6 @@ use Rattle.answers.specs.Reading.{dataPart, separatorMissing}
 use Rattle.answers.proofs.Split.{separator-seen, dataPart-of}
 use Rattle.decode.specs.Scan.{Joined, DataScanned, PrefixScanned}
 use Rattle.gf32.specs.Promises.{ClassesGiven}
-use Rattle.decode.specs.declared.scan.Tail.{Tail}
-use Rattle.decode.specs.declared.scan.Front.{Front}
 use Rattle.decode.proofs.Classes.{joined-none, joined-more}
 
 pub drop-back : (s : List ℕ) (i : ℕ) → 0 < i → i ≤ length s → drop (i - 1) s ≡ getD s (i - 1) 0 ∷ drop i s

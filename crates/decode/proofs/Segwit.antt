@@ -1,7 +1,6 @@
 -- Segwit reading in document 01's stages: 10; 1 to 6; 11 and 12; 8 and 9; 11 again; 13 and 14; 15 and 16. Where a stage begins, the verdict
 -- is what the rules that are left say; each stage refuses with its number or hands on the rules after it.
-use mathlib.Core.Path.{_≡_, refl, sym, ap, ap₂, _∙_}
-use mathlib.Core.Bool.{Bool, true, false}
+use mathlib.Core.Path.{_≡_, sym, ap, ap₂, _∙_}
 use mathlib.Core.List.{List, [], _∷_, _++_, map}
 use Prim.Native.Nat.{ℕ, _≤_, _<_}
 use native.Mathlib.Omega.{arith}
@@ -12,7 +11,7 @@ use Rattle.paper.specs.Checksum.{constantOf}
 use Rattle.paper.specs.Bits.{toBytes}
 use Rattle.answers.specs.Order.{Rule, _gives_, firstOf, NoneApplies}
 use Rattle.answers.specs.Rules.{versionUnknown, lengthWrong, lengthWrongFor0, paddingLong, paddingNotZero, paddingVerdict, lengthVerdict}
-use Rattle.answers.specs.Reading.{stringRules, dataPart, payload, versionOf, programSymbols, programOf, longerThan, dataMissing, dataShort, checksumWrong, payloadMissing, addressVerdict}
+use Rattle.answers.specs.Reading.{stringRules, versionOf, programSymbols, programOf, longerThan, dataMissing, dataShort, checksumWrong, payloadMissing, addressVerdict}
 use Rattle.answers.specs.declared.Address.{Address}
 use Rattle.answers.specs.declared.Address.the-variants as address
 use Rattle.answers.specs.declared.Verdict.the-variants as verdict

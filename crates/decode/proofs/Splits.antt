@@ -1,18 +1,17 @@
 -- From what the two scans hand on to document 01's tests 1 to 6 of the string.
 use mathlib.Core.Path.{_≡_, refl, sym, ap, ap₂, _∙_}
-use mathlib.Core.Bool.{Bool, true, false, not, _&&_, _||_}
-use mathlib.Core.List.{List, [], _∷_, _++_}
+use mathlib.Core.Bool.{Bool, true, false, _&&_, _||_}
+use mathlib.Core.List.{List, []}
 use Prim.Native.Nat.{ℕ, _-_, _/_, _%_, _^_, _≤_}
 use native.Mathlib.Omega.{arith}
 use lib.Dec.{eqb}
 use lib.Bits.{bitOr}
-use lib.ListN.{length, take, drop, length-drop}
+use lib.ListN.{length, take, length-drop}
 use Rattle.laws.specs.Lists.{any, all}
-use Rattle.laws.proofs.Bools.{both-ways}
 use Rattle.paper.specs.Charset.{isSeparator, isUpper, isLower, isPrintable}
 use Rattle.answers.specs.Reading.{dataPart, prefixPart, characterOutside, mixedCase}
 use Rattle.answers.proofs.Split.{whole-string}
-use Rattle.decode.specs.Scan.{Joined, DataScanned, PrefixScanned}
+use Rattle.decode.specs.Scan.{DataScanned, PrefixScanned}
 use Rattle.decode.specs.declared.scan.Tail.{Tail}
 use Rattle.decode.specs.declared.scan.Front.{Front}
 use Rattle.decode.proofs.Classes.{bit-or, any-parts}

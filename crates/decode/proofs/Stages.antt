@@ -1,6 +1,6 @@
 -- An order of refusal taken in stages: a stage that refuses decides, and one that accepts leaves the rest of the rules. A stage may give
 -- another kind of answer than the whole.
-use mathlib.Core.Path.{_≡_, refl, sym, ap, _∙_}
+use mathlib.Core.Path.{_≡_, refl, ap}
 use mathlib.Core.Bool.{Bool, true, false}
 use mathlib.Core.List.{List, [], _∷_, _++_}
 use Prim.Native.Nat.{ℕ}

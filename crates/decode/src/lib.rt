@@ -135,6 +135,7 @@ pub fn check_address(s: &[u8]) -> Address
     if let Verdict::Refused(number) = check(s, parts, checksum::for_version(version)) {
         return Address::Refused(number);
     }
+    // 11 again, now that the checksum is off
     if payload_of(s, parts).len() == 0 {
         return Address::Refused(NO_DATA);
     }

@@ -12,7 +12,9 @@ use lib.ListN.{length, take, drop, getD, drop-of-length-le}
 use lib.Seq.{length-take-le, take-nil, take-set-le, drop-cons, take-suc-set, take-append-seam}
 use Rattle.laws.proofs.Bools.{and-false}
 use Rattle.fieldvec.specs.declared.FieldVec.{FieldVec}
-use Rattle.fieldvec.specs.Lists.{elements, listed, pushed, poppedBack, alike}
+use Rattle.laws.specs.Lists.{table}
+use Rattle.gf32_ext.specs.Field.{power}
+use Rattle.fieldvec.specs.Lists.{elements, listed, accepted, pushed, poppedBack, alike, pointwise, multipliedPointwise, powersGiven}
 
 -- ---- comparing
 
@@ -67,3 +69,13 @@ pub part-after : (n : ℕ) (l : List ℕ) → 0 < n → take (n - 1) (drop 1 l) 
 part-after zero l h = absurd (omega arith)
 part-after (suc n) [] h = take-nil (suc n - 1)
 part-after (suc n) (x ∷ l) h = let e : suc n - 1 ≡ n = omega arith in ap (λ (k : ℕ). take k l) e
+
+-- ---- where nothing is refused
+
+pub pointwise-accepted : (t u : FieldVec) → t .len ≡ u .len → t .len ≤ 7 → multipliedPointwise t u ≡ accepted (listed (pointwise (elements t) (elements u)))
+unfolding multipliedPointwise
+pointwise-accepted t u e h = rw (eq-eqb (t .len) (u .len) e, le-ltb 7 (t .len) h)
+
+pub powers-accepted : (base n : ℕ) → n ≤ 7 → powersGiven base n ≡ accepted (listed (table (power base) n))
+unfolding powersGiven
+powers-accepted base n h = rw (le-ltb 7 n h)

@@ -1,4 +1,3 @@
-pub mod First
 pub mod Field
 pub mod Norm
 pub mod Powers

@@ -18,7 +18,7 @@ use Rattle.gf32.specs.declared.Quotient.the-variants as gf32
 use Rattle.gf32.proofs.Field.{fast, fast-is, divides as divides32, product-lt as product32-lt, product-comm as product32-comm, product-assoc as product32-assoc, product-⊕ as product32-⊕, ⊕-product as ⊕-product32}
 use Rattle.gf32_ext.specs.declared.Quotient.the-variants.{Value, Refused}
 use Rattle.gf32_ext.specs.Field.{low, high, packed, product, inverse, inverseOf, quotient}
-use Rattle.gf32_ext.proofs.First.{first-below}
+use Rattle.laws.proofs.First.{first-below}
 use Rattle.gf32_ext.proofs.Field.{below1024, low-lt, high-lt, low-packed, high-packed, packed-lt, packed-zero, low-mod, high-mod, sum32-is, ⊕-lt32, product-is, product-comm, product-assoc, product-one, one-product, zero-product}
 
 product32-left-comm : (a b c : ℕ) → product32 a (product32 b c) ≡ product32 b (product32 a c)

@@ -3,8 +3,6 @@ use Rattle.decode.proofs.Offsets.{belongs-not, belongs-asked}
 use borrow.Author.Needs.{needs}
 use Rattle.decode.proofs.belongs.Statement.{statement}
 use Rattle.decode.proofs.belongs.Tie as tie
-use Rattle.decode.proofs.belongs.Reads as reads
-use Rattle.decode.proofs.belongs.Lts as lts
 
 returns : tie.Need-returns
 returns c = belongs-not (c .before .before .args .s .now) (c .before .before .args .parts) (c .if1 .taken)

@@ -1,5 +1,5 @@
 -- 7, 8 and 9 in their order: the residue that the engine comes to is the one of the definition.
-use mathlib.Core.Path.{_≡_, sym, ap, _∙_}
+use mathlib.Core.Path.{_≡_, sym, _∙_}
 use mathlib.Core.List.{map}
 use Rattle.paper.specs.Charset.{lower, symbol}
 use Rattle.paper.specs.Checksum.{polymod, expand}
@@ -7,15 +7,6 @@ use Rattle.decode.proofs.Offsets.{engine-came, check-long, check-short,
 use borrow.Author.Needs.{needs}
 use Rattle.decode.proofs.check.Statement.{statement}
 use Rattle.decode.proofs.check.Tie as tie
-use Rattle.decode.proofs.check.Reads as reads
-use Rattle.decode.proofs.check.Lts as lts
-use Rattle.checksum.proofs.Engine.input_characters.Reads as input-characters-reads
-use Rattle.checksum.proofs.Engine.input_prefix.Reads as input-prefix-reads
-use Rattle.checksum.proofs.Engine.new.Reads as new-reads
-use Rattle.checksum.proofs.Engine.residue.Reads as residue-reads
-use Rattle.checksum.proofs.constant.Reads as constant-reads
-use Rattle.decode.proofs.data_of.Reads as data-of-reads
-use Rattle.decode.proofs.prefix_of.Reads as prefix-of-reads
 
 came : (c : tie.After-residue)
     → c .residue .result ≡ polymod (polymod 1 (expand (map lower (c .before .before .before .before .prefix-of .result .now)))) (map symbol (c .before .before .before .before .before .before .data-of .result .now))

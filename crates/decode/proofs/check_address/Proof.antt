@@ -1,8 +1,6 @@
 -- Segwit reading, stage by stage: at each the verdict is what the rules that are left say.
 use mathlib.Core.Path.{_≡_, sym, _∙_}
 use mathlib.Core.List.{_++_}
-use Prim.Native.Nat.{_≤_}
-use lib.ListN.{length}
 use Rattle.answers.specs.Reading.{stringRules, versionOf}
 use Rattle.decode.specs.Splitting.{splitVerdict}
 use Rattle.decode.specs.declared.Parted.the-variants as parted
@@ -10,17 +8,6 @@ use Rattle.decode.proofs.Segwit.{Here, afterSplit, afterVersion, afterS
 use borrow.Author.Needs.{needs}
 use Rattle.decode.proofs.check_address.Statement.{statement}
 use Rattle.decode.proofs.check_address.Tie as tie
-use Rattle.decode.proofs.check_address.Reads as reads
-use Rattle.decode.proofs.check_address.Lts as lts
-use Rattle.checksum.proofs.for_version.Reads as for-version-reads
-use Rattle.decode.proofs.check.Reads as check-reads
-use Rattle.decode.proofs.payload_of.Reads as payload-of-reads
-use Rattle.decode.proofs.program_of.Reads as program-of-reads
-use Rattle.decode.proofs.split.Reads as split-reads
-use Rattle.decode.proofs.version_of.Reads as version-of-reads
-use Rattle.iter.proofs.bytes_for_symbols.Reads as bytes-for-symbols-reads
-use Rattle.iter.proofs.padding_of_characters.Reads as padding-of-characters-reads
-use Rattle.segwit.proofs.check_program_length.Reads as check-program-length-reads
 
 -- what the calls gave
 into : (c : tie.After-known-told) → parted.Into (c .before .parts .given .0 .0) ≡ splitVerdict (c .before .before .before .before .before .before .args .s .now)

@@ -1,5 +1,5 @@
 -- The payload of a string that is read, and nothing of one that is refused.
-use mathlib.Core.Path.{_≡_, sym, _∙_}
+use mathlib.Core.Path.{sym, _∙_}
 use native.Mathlib.Omega.{arith}
 use Rattle.answers.specs.Reading.{payload}
 use Rattle.checksum.specs.Parameters.{constantFor}
@@ -7,10 +7,6 @@ use Rattle.decode.proofs.Generic.{read-length, read-payload, part-refus
 use borrow.Author.Needs.{needs}
 use Rattle.decode.proofs.data_part.Statement.{statement}
 use Rattle.decode.proofs.data_part.Tie as tie
-use Rattle.decode.proofs.data_part.Reads as reads
-use Rattle.decode.proofs.data_part.Lts as lts
-use Rattle.decode.proofs.part_after.Reads as part-after-reads
-use Rattle.decode.proofs.read.Reads as read-reads
 
 read-requires : tie.Need-read-requires
 read-requires c κs = search needs

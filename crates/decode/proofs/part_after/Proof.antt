@@ -6,8 +6,6 @@ use lib.ListN.{take, drop}
 use borrow.Author.Needs.{needs}
 use Rattle.decode.proofs.part_after.Statement.{statement}
 use Rattle.decode.proofs.part_after.Tie as tie
-use Rattle.decode.proofs.part_after.Reads as reads
-use Rattle.decode.proofs.part_after.Lts as lts
 
 add-start : tie.Need-add-start
 add-start c = search needs

@@ -5,9 +5,6 @@ use Rattle.decode.proofs.Offsets.{no-payload, a-payload}
 use borrow.Author.Needs.{needs}
 use Rattle.decode.proofs.payload_of.Statement.{statement}
 use Rattle.decode.proofs.payload_of.Tie as tie
-use Rattle.decode.proofs.payload_of.Reads as reads
-use Rattle.decode.proofs.payload_of.Lts as lts
-use Rattle.decode.proofs.data_of.Reads as data-of-reads
 
 data-of-requires : tie.Need-data-of-requires
 data-of-requires c κs = search needs

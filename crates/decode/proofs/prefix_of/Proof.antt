@@ -9,9 +9,6 @@ use Rattle.decode.proofs.Offsets.{belongs-length, no-prefix, a-prefix}
 use borrow.Author.Needs.{needs}
 use Rattle.decode.proofs.prefix_of.Statement.{statement}
 use Rattle.decode.proofs.prefix_of.Tie as tie
-use Rattle.decode.proofs.prefix_of.Reads as reads
-use Rattle.decode.proofs.prefix_of.Lts as lts
-use Rattle.decode.proofs.belongs.Reads as belongs-reads
 
 does : (c : tie.Else1) → belongs (c .before .before .before .args .s .now) (c .before .before .before .args .parts) ≡ true
 does c = sym (c .before .belongs .ensures) ∙ not-false (c .before .belongs .result) (c .if1 .left)

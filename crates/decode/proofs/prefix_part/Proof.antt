@@ -1,5 +1,5 @@
 -- The prefix of a string that is read, and nothing of one that is refused.
-use mathlib.Core.Path.{_≡_, sym, _∙_}
+use mathlib.Core.Path.{sym, _∙_}
 use native.Mathlib.Omega.{arith}
 use lib.Seq.{length-take-le}
 use Rattle.answers.specs.Reading.{prefixPart}
@@ -8,9 +8,6 @@ use Rattle.decode.proofs.Generic.{read-length, read-prefix, part-refuse
 use borrow.Author.Needs.{needs}
 use Rattle.decode.proofs.prefix_part.Statement.{statement}
 use Rattle.decode.proofs.prefix_part.Tie as tie
-use Rattle.decode.proofs.prefix_part.Reads as reads
-use Rattle.decode.proofs.prefix_part.Lts as lts
-use Rattle.decode.proofs.read.Reads as read-reads
 
 read-requires : tie.Need-read-requires
 read-requires c κs = search needs

@@ -3,9 +3,6 @@ use Rattle.decode.proofs.Offsets.{no-program, a-program}
 use borrow.Author.Needs.{needs}
 use Rattle.decode.proofs.program_of.Statement.{statement}
 use Rattle.decode.proofs.program_of.Tie as tie
-use Rattle.decode.proofs.program_of.Reads as reads
-use Rattle.decode.proofs.program_of.Lts as lts
-use Rattle.decode.proofs.payload_of.Reads as payload-of-reads
 
 payload-of-requires : tie.Need-payload-of-requires
 payload-of-requires c κs = search needs

@@ -6,8 +6,6 @@ use lib.ListN.{length, take, drop}
 use borrow.Author.Needs.{needs}
 use Rattle.decode.proofs.program_part.Statement.{statement}
 use Rattle.decode.proofs.program_part.Tie as tie
-use Rattle.decode.proofs.program_part.Reads as reads
-use Rattle.decode.proofs.program_part.Lts as lts
 
 -- the part ends where the last six begin
 ends : (n six k : ℕ) → k + six ≤ n → n - six - (n - six - k) ≡ k

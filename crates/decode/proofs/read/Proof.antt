@@ -6,10 +6,6 @@ use Rattle.decode.proofs.Generic.{read-split-refused, read-check-refuse
 use borrow.Author.Needs.{needs}
 use Rattle.decode.proofs.read.Statement.{statement}
 use Rattle.decode.proofs.read.Tie as tie
-use Rattle.decode.proofs.read.Reads as reads
-use Rattle.decode.proofs.read.Lts as lts
-use Rattle.decode.proofs.check.Reads as check-reads
-use Rattle.decode.proofs.split.Reads as split-reads
 
 split-requires : tie.Need-split-requires
 split-requires c κs = search needs

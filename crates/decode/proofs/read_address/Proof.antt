@@ -1,5 +1,5 @@
 -- A refusal is the address's; 17 where the program does not fit; else the program's characters go to `iter`.
-use mathlib.Core.Path.{_≡_, sym, ap, _∙_}
+use mathlib.Core.Path.{sym, ap, _∙_}
 use mathlib.Core.List.{List, map}
 use Rattle.paper.specs.Charset.{symbol}
 use Rattle.paper.specs.Bits.{toBytes}
@@ -9,11 +9,6 @@ use Rattle.decode.proofs.Program.{program-fits, program-found}
 use borrow.Author.Needs.{needs}
 use Rattle.decode.proofs.read_address.Statement.{statement}
 use Rattle.decode.proofs.read_address.Tie as tie
-use Rattle.decode.proofs.read_address.Reads as reads
-use Rattle.decode.proofs.read_address.Lts as lts
-use Rattle.decode.proofs.check_address.Reads as check-address-reads
-use Rattle.decode.proofs.program_part.Reads as program-part-reads
-use Rattle.iter.proofs.characters_to_bytes.Reads as characters-to-bytes-reads
 
 check-address-requires : tie.Need-check-address-requires
 check-address-requires c κs = search needs

@@ -1,5 +1,5 @@
 -- A refusal is the reading's; an accepted string's payload goes to `iter`, whose answer is the answer.
-use mathlib.Core.Path.{_≡_, sym, _∙_}
+use mathlib.Core.Path.{sym, _∙_}
 use native.Mathlib.Omega.{arith}
 use Rattle.checksum.specs.Parameters.{constantFor}
 use Rattle.decode.proofs.Generic.{read-length, read-payload}
@@ -7,11 +7,6 @@ use Rattle.decode.proofs.Rooms.{bytes-refused, bytes-written}
 use borrow.Author.Needs.{needs}
 use Rattle.decode.proofs.read_bytes.Statement.{statement}
 use Rattle.decode.proofs.read_bytes.Tie as tie
-use Rattle.decode.proofs.read_bytes.Reads as reads
-use Rattle.decode.proofs.read_bytes.Lts as lts
-use Rattle.decode.proofs.part_after.Reads as part-after-reads
-use Rattle.decode.proofs.read.Reads as read-reads
-use Rattle.iter.proofs.characters_to_bytes.Reads as characters-to-bytes-reads
 
 read-requires : tie.Need-read-requires
 read-requires c κs = search needs

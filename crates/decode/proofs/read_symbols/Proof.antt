@@ -1,5 +1,5 @@
 -- A refusal is the reading's; of an accepted string the payload's symbols are put.
-use mathlib.Core.Path.{_≡_, sym, _∙_}
+use mathlib.Core.Path.{sym, _∙_}
 use native.Mathlib.Omega.{arith}
 use Rattle.checksum.specs.Parameters.{constantFor}
 use Rattle.decode.proofs.Generic.{read-length, read-payload}
@@ -7,11 +7,6 @@ use Rattle.decode.proofs.Rooms.{symbols-refused, symbols-written}
 use borrow.Author.Needs.{needs}
 use Rattle.decode.proofs.read_symbols.Statement.{statement}
 use Rattle.decode.proofs.read_symbols.Tie as tie
-use Rattle.decode.proofs.read_symbols.Reads as reads
-use Rattle.decode.proofs.read_symbols.Lts as lts
-use Rattle.decode.proofs.part_after.Reads as part-after-reads
-use Rattle.decode.proofs.symbols.put_symbols.Reads as put-symbols-reads
-use Rattle.decode.proofs.read.Reads as read-reads
 
 read-requires : tie.Need-read-requires
 read-requires c κs = search needs

@@ -1,11 +1,8 @@
 -- The rules 1 to 6 in their order: what each test of the code comes to, by the laws on the scans, and then each exit.
-use mathlib.Core.Path.{_≡_, sym, ap, _∙_}
-use mathlib.Core.Bool.{false, not}
-use mathlib.Core.List.{List}
-use Prim.Native.Nat.{ℕ}
+use mathlib.Core.Path.{_≡_, sym, _∙_}
+use mathlib.Core.Bool.{false}
 use borrow.Author.Needs.{needs}
 use borrow.Author.Tests.{eq-eqb, ne-eqb, lt-ltb, le-ltb}
-use lib.ListN.{length, take}
 use Rattle.laws.specs.Lists.{all}
 use Rattle.paper.specs.Charset.{isPrintable}
 use Rattle.answers.specs.Reading.{characterOutside, mixedCase, separatorMissing, prefixEmpty, prefixLong, prefixByteOutside, prefixPart}
@@ -13,14 +10,6 @@ use Rattle.decode.specs.Splitting.{partsOf, splitVerdict}
 use Rattle.decode.proofs.Splits.{outside-asked, prefix-found, cases-asked, printable-asked, symbols-found}
 use Rattle.decode.proofs.split.Statement.{statement}
 use Rattle.decode.proofs.split.Tie as tie
-use Rattle.decode.proofs.split.Reads as reads
-use Rattle.decode.proofs.split.Lts as lts
-use Rattle.decode.proofs.scan.has_both_cases.Reads as has-both-cases-reads
-use Rattle.decode.proofs.scan.has_outside.Reads as has-outside-reads
-use Rattle.decode.proofs.scan.part_before.Reads as part-before-reads
-use Rattle.decode.proofs.scan.scan_data.Reads as scan-data-reads
-use Rattle.decode.proofs.scan.scan_prefix.Reads as scan-prefix-reads
-use Rattle.gf32.proofs.classes.Reads as classes-reads
 
 -- what each test of the code comes to
 no-outside : (c : tie.Else1) → characterOutside (c .before .before .before .before .before .before .args .s .now) ≡ false

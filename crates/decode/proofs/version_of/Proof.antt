@@ -4,10 +4,6 @@ use Rattle.decode.proofs.Offsets.{version-missing, version-no-symbol, v
 use borrow.Author.Needs.{needs}
 use Rattle.decode.proofs.version_of.Statement.{statement}
 use Rattle.decode.proofs.version_of.Tie as tie
-use Rattle.decode.proofs.version_of.Reads as reads
-use Rattle.decode.proofs.version_of.Lts as lts
-use Rattle.decode.proofs.data_of.Reads as data-of-reads
-use Rattle.gf32.proofs.from_byte.Reads as from-byte-reads
 
 data-of-requires : tie.Need-data-of-requires
 data-of-requires c κs = search needs

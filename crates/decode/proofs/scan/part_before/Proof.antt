@@ -3,8 +3,6 @@ use borrow.Author.Needs.{needs}
 use lib.Seq.{length-take-le}
 use Rattle.decode.proofs.scan.part_before.Statement.{statement}
 use Rattle.decode.proofs.scan.part_before.Tie as tie
-use Rattle.decode.proofs.scan.part_before.Reads as reads
-use Rattle.decode.proofs.scan.part_before.Lts as lts
 
 slice-aggregate-result : tie.Need-slice-aggregate-result
 slice-aggregate-result c = search needs

@@ -1,5 +1,5 @@
 -- The scan of the data part. The invariant: what lies from `start` on has these joined classes and no separator.
-use mathlib.Core.Path.{_≡_, subst, sym}
+use mathlib.Core.Path.{_≡_}
 use mathlib.Core.Bool.{false}
 use Prim.Native.Nat.{_≤_, _-_}
 use native.Mathlib.Omega.{arith}
@@ -8,12 +8,9 @@ use lib.ListN.{length, drop}
 use Rattle.laws.specs.Lists.{any}
 use Rattle.paper.specs.Charset.{isSeparator}
 use Rattle.decode.specs.Scan.{Joined}
-use Rattle.decode.proofs.Classes.{joined-none, joined-more}
 use Rattle.decode.proofs.Scanning.{nothing-yet, joined-back, none-more, stopped, ended}
 use Rattle.decode.proofs.scan.scan_data.Statement.{statement}
 use Rattle.decode.proofs.scan.scan_data.Tie as tie
-use Rattle.decode.proofs.scan.scan_data.Reads as reads
-use Rattle.decode.proofs.scan.scan_data.Lts as lts
 
 abbrev Inv-loop : tie.InvT-loop
 Inv-loop table s classes₀ start₀ classes start = (start ≤ length s) × (Joined classes (drop start s) × (any isSeparator (drop start s) ≡ false))

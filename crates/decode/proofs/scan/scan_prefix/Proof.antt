@@ -1,6 +1,5 @@
 -- The scan of the prefix. The invariant: what lies from `i` on has these joined classes, and is printable as the flag says.
-use mathlib.Core.Path.{_≡_, refl, sym, ap, ap₂, _∙_}
-use mathlib.Core.Bool.{_&&_}
+use mathlib.Core.Path.{_≡_}
 use Prim.Native.Nat.{_≤_, _-_}
 use native.Mathlib.Omega.{arith}
 use borrow.Author.Needs.{needs}
@@ -11,8 +10,6 @@ use Rattle.decode.specs.Scan.{Joined}
 use Rattle.decode.proofs.Scanning.{nothing-yet, joined-back, printable-yet, printable-back, whole-prefix}
 use Rattle.decode.proofs.scan.scan_prefix.Statement.{statement}
 use Rattle.decode.proofs.scan.scan_prefix.Tie as tie
-use Rattle.decode.proofs.scan.scan_prefix.Reads as reads
-use Rattle.decode.proofs.scan.scan_prefix.Lts as lts
 
 abbrev Inv-loop : tie.InvT-loop
 Inv-loop table prefix classes₀ printable₀ i₀ classes printable i =

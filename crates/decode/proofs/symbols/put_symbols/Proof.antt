@@ -7,9 +7,6 @@ use Rattle.iter.proofs.Answers.{no-room, room}
 use borrow.Author.Needs.{needs}
 use Rattle.decode.proofs.symbols.put_symbols.Statement.{statement}
 use Rattle.decode.proofs.symbols.put_symbols.Tie as tie
-use Rattle.decode.proofs.symbols.put_symbols.Reads as reads
-use Rattle.decode.proofs.symbols.put_symbols.Lts as lts
-use Rattle.decode.proofs.symbols.fill_symbols.Reads as fill-symbols-reads
 
 returns : tie.Need-returns
 returns c = no-room (map symbol (c .before .before .before .args .characters .now)) (c .before .before .before .args .out .now) (length (c .before .before .before .args .characters .now)) (sym (length-map (c .before .before .before .args .characters .now) symbol)) (c .if1 .taken)

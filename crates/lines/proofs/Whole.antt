@@ -1,0 +1,245 @@
+-- However the input is cut into pieces and whatever output buffers are lent, a session that starts with an empty line writes the answers to
+-- what it took, and no call with room for an answer takes nothing of a piece. Each call is the machine of Machine.antt on the bytes that it took.
+use mathlib.Core.Path.{_≡_, refl, sym, ap, _∙_, subst}
+use mathlib.Core.Bool.{Bool, true, false}
+use mathlib.Core.List.{List, [], _∷_, _++_, append-assoc, append-nil}
+use Prim.Native.Nat.{ℕ, suc, _+_, _-_, _≤_, _<_}
+use native.Mathlib.Nat.{add-zero, zero-add}
+use native.Mathlib.Numerals.{add-one}
+use native.Mathlib.Omega.{arith}
+use lib.Dec.{eqb, ltb}
+use lib.ListN.{length, take, drop, set, length-set, length-append}
+use lib.Seq.{sets, sets-eq, length-sets, take-at, take-suc-set, length-take-le}
+use borrow.Author.Tests.{lt-ltb, le-ltb, ltb-true, ltb-false, eqb-true}
+use Rattle.answers.specs.Lines.{answerTo, outputOf}
+use Rattle.lines.specs.Feeding.{Standing, standing, answered, kept, lineWith, countWith, full, passed, fedFrom, keptCount, start, fed, finished}
+use Rattle.lines.specs.Promises.{WasFed, WasFinished}
+use Rattle.lines.specs.declared.Fed.{Fed}
+use Rattle.lines.specs.Sessions.{Call, outcome, takenIn, writtenOut}
+use Rattle.lines.proofs.Cut.{answer-length}
+use Rattle.lines.proofs.Machine.{keptWith, keptAfter, said, lastSaid, kept-joined, said-joined, all-said}
+
+-- the bytes of the present line that are kept, and the bytes written
+abbrev present : Standing → List ℕ
+present st = take (st .len) (st .line)
+
+abbrev shown : Standing → List ℕ
+shown st = take (st .written) (st .out)
+
+record Sound (st : Standing) : Type 0 where
+  few : st .len ≤ 91
+  wide : 91 ≤ length (st .line)
+  within : st .written ≤ length (st .out)
+
+-- from st, the first n bytes of s lead to r
+record Ran (s : List ℕ) (st r : Standing) : Type 0 where
+  n : ℕ
+  bound : n ≤ length s
+  count : r .taken ≡ st .taken + n
+  keeps : present r ≡ keptAfter (take n s) (present st)
+  says : shown r ≡ shown st ++ said (take n s) (present st)
+  sound : Sound r
+
+-- ---- an answer in the output
+
+pub written-over : (out : List ℕ) (at : ℕ) (a : List ℕ) → at + length a ≤ length out → take (at + length a) (sets out at a) ≡ take at out ++ a
+written-over out at a h =
+    ap (take (at + length a)) (sets-eq a out at h)
+    ∙ take-at (take at out ++ a) (drop (at + length a) out) (at + length a)
+    (omega (arith, length-append (take at out) a, length-take-le at out (omega arith)))
+
+room-left : (st : Standing) → full st ≡ false → 3 ≤ length (st .out) - st .written
+unfolding full
+room-left st e = ltb-false (length (st .out) - st .written) 3 e
+
+sound-answered : (st : Standing) → Sound st → full st ≡ false → Sound (passed (answered st))
+unfolding passed answered
+sound-answered st h e =
+    let m : 3 ≤ length (st .out) - st .written = room-left st e in
+    let a : length (answerTo (present st)) ≤ 3 = answer-length (present st) in
+    let z : length (sets (st .out) (st .written) (answerTo (present st))) ≡ length (st .out) = length-sets (st .out) (st .written) (answerTo (present st)) in
+    record { few = omega arith; wide = h .wide; within = omega (arith, h .within) }
+
+shown-answered : (st : Standing) → full st ≡ false → shown (passed (answered st)) ≡ shown st ++ answerTo (present st)
+unfolding passed answered
+shown-answered st e =
+    let m : 3 ≤ length (st .out) - st .written = room-left st e in
+    let a : length (answerTo (present st)) ≤ 3 = answer-length (present st) in
+    written-over (st .out) (st .written) (answerTo (present st)) (omega arith)
+
+-- ---- a byte that is kept
+
+kept-case : (c : ℕ) (st : Standing) → Sound st → (b : Bool) → ltb (st .len) 91 ≡ b
+    → (Sound (passed (kept c st))) × (present (passed (kept c st)) ≡ keptWith c (present st))
+unfolding passed kept lineWith countWith keptWith
+kept-case c st h true e =
+    let l : st .len < 91 = ltb-true (st .len) 91 e in
+    let w : st .len < length (st .line) = omega (arith, h .wide) in
+    let z : length (set (st .line) (st .len) c) ≡ length (st .line) = length-set (st .line) (st .len) c in
+    let y : length (present st) ≡ st .len = length-take-le (st .len) (st .line) (omega arith) in
+    let t : ltb (length (present st)) 91 ≡ true = lt-ltb (length (present st)) 91 (omega arith) in (
+      rw e (record { few = omega arith; wide = omega (arith, h .wide); within = h .within }),
+      rw (e, t, add-one (st .len)) (take-suc-set (st .line) (st .len) c w),
+    )
+kept-case c st h false e =
+    let l : 91 ≤ st .len = ltb-false (st .len) 91 e in
+    let y : length (present st) ≡ st .len = length-take-le (st .len) (st .line) (omega (arith, h .wide, h .few)) in
+    let t : ltb (length (present st)) 91 ≡ false = le-ltb (length (present st)) 91 (omega arith) in
+    (rw e (record { few = h .few; wide = h .wide; within = h .within }), rw (e, t))
+
+-- ---- feeding is the machine on what was taken
+
+nothing : (s : List ℕ) (st : Standing) → Sound st → Ran s st st
+nothing s st h = record { n = 0; bound = omega arith; count = sym (add-zero (st .taken)); keeps = refl; says = sym (append-nil (shown st)); sound = h }
+
+after-answer : (c : ℕ) (s : List ℕ) (st r : Standing) → eqb c 10 ≡ true → full st ≡ false → Ran s (passed (answered st)) r → Ran (c ∷ s) st r
+unfolding passed answered
+after-answer c s st r e f g =
+    record {
+      n = suc (g .n);
+      bound = omega (arith, g .bound);
+      count = omega (arith, g .count);
+      keeps = rw e (g .keeps);
+      says =
+          rw e
+          (g .says
+          ∙ ap (λ (l : List ℕ). l ++ said (take (g .n) s) []) (shown-answered st f)
+          ∙ append-assoc (shown st) (answerTo (present st)) (said (take (g .n) s) []));
+      sound = g .sound;
+    }
+
+after-kept : (c : ℕ) (s : List ℕ) (st r : Standing) → eqb c 10 ≡ false → present (passed (kept c st)) ≡ keptWith c (present st)
+    → Ran s (passed (kept c st)) r → Ran (c ∷ s) st r
+unfolding passed kept
+after-kept c s st r e p g =
+    record {
+      n = suc (g .n);
+      bound = omega (arith, g .bound);
+      count = omega (arith, g .count);
+      keeps = rw e (g .keeps ∙ ap (keptAfter (take (g .n) s)) p);
+      says = rw e (g .says ∙ ap (λ (k : List ℕ). shown st ++ said (take (g .n) s) k) p);
+      sound = g .sound;
+    }
+
+fed-kept : (c : ℕ) (s : List ℕ) (st : Standing) → eqb c 10 ≡ false → fedFrom (c ∷ s) st ≡ fedFrom s (passed (kept c st))
+unfolding fedFrom
+fed-kept c s st e = rw e
+
+fed-answered : (c : ℕ) (s : List ℕ) (st : Standing) → eqb c 10 ≡ true → full st ≡ false → fedFrom (c ∷ s) st ≡ fedFrom s (passed (answered st))
+unfolding fedFrom
+fed-answered c s st e f = rw (e, f)
+
+fed-stopped : (c : ℕ) (s : List ℕ) (st : Standing) → eqb c 10 ≡ true → full st ≡ true → fedFrom (c ∷ s) st ≡ st
+unfolding fedFrom
+fed-stopped c s st e f = rw (e, f)
+
+ran-byte : (c : ℕ) (s : List ℕ) (st : Standing) → Sound st → (b f : Bool) → eqb c 10 ≡ b → full st ≡ f
+    → ((st : Standing) → Sound st → Ran s st (fedFrom s st)) → Ran (c ∷ s) st (fedFrom (c ∷ s) st)
+ran-byte c s st h false f e g ih =
+    let k : (Sound (passed (kept c st))) × (present (passed (kept c st)) ≡ keptWith c (present st)) = kept-case c st h (ltb (st .len) 91) refl in
+    subst (Ran (c ∷ s) st) (sym (fed-kept c s st e)) (after-kept c s st (fedFrom s (passed (kept c st))) e (k .1) (ih (passed (kept c st)) (k .0)))
+ran-byte c s st h true false e g ih =
+    subst (Ran (c ∷ s) st) (sym (fed-answered c s st e g))
+    (after-answer c s st (fedFrom s (passed (answered st))) e g (ih (passed (answered st)) (sound-answered st h g)))
+ran-byte c s st h true true e g ih = subst (Ran (c ∷ s) st) (sym (fed-stopped c s st e g)) (nothing (c ∷ s) st h)
+
+fed-none : (st : Standing) → fedFrom [] st ≡ st
+unfolding fedFrom
+fed-none st = refl
+
+ran : (s : List ℕ) (st : Standing) → Sound st → Ran s st (fedFrom s st)
+ran [] st h = subst (Ran [] st) (sym (fed-none st)) (nothing [] st h)
+ran (c ∷ s) st h = ran-byte c s st h (eqb c 10) (full st) refl refl (ran s)
+
+-- ---- a call
+
+fed-is : (s line : List ℕ) (len : ℕ) (out : List ℕ) → len ≤ 91 → 91 ≤ length line → fed s line len out ≡ fedFrom s (standing 0 line len out 0)
+unfolding fed start keptCount
+fed-is s line len out f w = rw (le-ltb (length line) 91 w, le-ltb 91 len f)
+
+ran-call : (s line : List ℕ) (len : ℕ) (out : List ℕ) → len ≤ 91 → 91 ≤ length line → Ran s (standing 0 line len out 0) (fed s line len out)
+ran-call s line len out f w =
+    subst (Ran s (standing 0 line len out 0)) (sym (fed-is s line len out f w))
+    (ran s (standing 0 line len out 0) (record { few = f; wide = w; within = omega arith }))
+
+-- a call with room for an answer takes something of a piece that is not empty
+first-taken : (c : ℕ) (s : List ℕ) (st : Standing) → Sound st → full st ≡ false → (b : Bool) → eqb c 10 ≡ b → st .taken < fedFrom (c ∷ s) st .taken
+unfolding passed kept answered
+first-taken c s st h f true e =
+    rw (fed-answered c s st e f) (omega (arith, ran s (passed (answered st)) (sound-answered st h f) .count))
+first-taken c s st h f false e =
+    let k : (Sound (passed (kept c st))) × (present (passed (kept c st)) ≡ keptWith c (present st)) = kept-case c st h (ltb (st .len) 91) refl in
+    rw (fed-kept c s st e) (omega (arith, ran s (passed (kept c st)) (k .0) .count))
+
+pub takes-something : (c : ℕ) (s line : List ℕ) (len : ℕ) (out : List ℕ) → len ≤ 91 → 91 ≤ length line → 3 ≤ length out → 0 < fed (c ∷ s) line len out .taken
+unfolding full
+takes-something c s line len out f w m =
+    rw (fed-is (c ∷ s) line len out f w)
+    (first-taken c s (standing 0 line len out 0) (record { few = f; wide = w; within = omega arith }) (le-ltb (length out - 0) 3 (omega arith)) (eqb c 10) refl)
+
+progress : (s line : List ℕ) (len : ℕ) (out : List ℕ) → len ≤ 91 → 91 ≤ length line → 3 ≤ length out → 0 < length s → 0 < fed s line len out .taken
+progress [] line len out f w m h = absurd (omega arith)
+progress (c ∷ s) line len out f w m h = takes-something c s line len out f w m
+
+-- what a caller needs of the numbers that a call tells: they lie within its slices, and there is progress
+pub feed-numbers : (s line : List ℕ) (len : ℕ) (out : List ℕ) (r : Fed) (line′ out′ : List ℕ) → WasFed s line len out r line′ out′
+    → len ≤ 91 → 91 ≤ length line → 3 ≤ length out
+    → (r .taken ≤ length s) × (r .written ≤ length out′) × (r .len ≤ 91) × (0 < length s → 0 < r .taken)
+feed-numbers s line len out r line′ out′ p f w m =
+    let g : Ran s (standing 0 line len out 0) (fed s line len out) = ran-call s line len out f w in (
+      rw (p .answer) (omega (arith, g .count, g .bound)),
+      rw (p .answer, p .output) (g .sound .within),
+      rw (p .answer) (g .sound .few),
+      λ (h : 0 < length s). rw (p .answer) (progress s line len out f w m h),
+    )
+
+-- ---- the end of the input
+
+finished-case : (line : List ℕ) (len : ℕ) (room : List ℕ) → len ≤ 91 → 91 ≤ length line → 3 ≤ length room → (b : Bool) → eqb len 0 ≡ b
+    → take (finished line len room .written) (finished line len room .out) ≡ lastSaid (take len line)
+unfolding finished start keptCount full answered
+finished-case line len room f w m true e = rw (le-ltb (length line) 91 w, le-ltb 91 len f, e, eqb-true len 0 e)
+finished-case line len room f w m false e =
+    let y : length (take len line) ≡ len = length-take-le len line (omega arith) in
+    let a : length (answerTo (take len line)) ≤ 3 = answer-length (take len line) in
+    rw (le-ltb (length line) 91 w, le-ltb 91 len f, e, le-ltb (length room - 0) 3 (omega arith), y, e)
+    (written-over room 0 (answerTo (take len line)) (omega arith))
+
+finished-bound : (line : List ℕ) (len : ℕ) (room : List ℕ) → len ≤ 91 → 91 ≤ length line → 3 ≤ length room → (b : Bool) → eqb len 0 ≡ b
+    → finished line len room .written ≤ length (finished line len room .out)
+unfolding finished start keptCount full answered
+finished-bound line len room f w m true e = rw (le-ltb (length line) 91 w, le-ltb 91 len f, e) (omega arith)
+finished-bound line len room f w m false e =
+    let a : length (answerTo (take len line)) ≤ 3 = answer-length (take len line) in
+    let z : length (sets room 0 (answerTo (take len line))) ≡ length room = length-sets room 0 (answerTo (take len line)) in
+    rw (le-ltb (length line) 91 w, le-ltb 91 len f, e, le-ltb (length room - 0) 3 (omega arith)) (omega arith)
+
+pub finish-numbers : (line : List ℕ) (len : ℕ) (out : List ℕ) (r : Fed) (out′ : List ℕ) → WasFinished line len out r out′
+    → len ≤ 91 → 91 ≤ length line → 3 ≤ length out → r .written ≤ length out′
+finish-numbers line len out r out′ p f w m = rw (p .answer, p .output) (finished-bound line len out f w m (eqb len 0) refl)
+
+-- ---- a session
+
+-- a call that took t from the kept bytes k, and the rest, which takes x from what was kept then
+joined : (t x k here wrote rest : List ℕ) → here ≡ keptAfter t k → wrote ≡ said t k → rest ≡ said x here ++ lastSaid (keptAfter x here)
+    → wrote ++ rest ≡ said (t ++ x) k ++ lastSaid (keptAfter (t ++ x) k)
+joined t x k here wrote rest p q w =
+    rw (said-joined t x k, kept-joined t x k, q, w, p) (sym (append-assoc (said t k) (said x (keptAfter t k)) (lastSaid (keptAfter x (keptAfter t k)))))
+
+pub session : (calls : List Call) (line : List ℕ) (len : ℕ) (room : List ℕ) → len ≤ 91 → 91 ≤ length line → 3 ≤ length room
+    → writtenOut line len calls room ≡ said (takenIn line len calls) (take len line) ++ lastSaid (keptAfter (takenIn line len calls) (take len line))
+unfolding takenIn writtenOut outcome
+session [] line len room f w m = finished-case line len room f w m (eqb len 0) refl
+session (call ∷ calls) line len room f w m =
+    let o : Standing = fed (call .piece) line len (call .room) in
+    let g : Ran (call .piece) (standing 0 line len (call .room) 0) (fed (call .piece) line len (call .room)) = ran-call (call .piece) line len (call .room) f w in
+    let t : take (fed (call .piece) line len (call .room) .taken) (call .piece) ≡ take (g .n) (call .piece) = ap (λ (i : ℕ). take i (call .piece)) (g .count ∙ zero-add (g .n)) in
+    joined (take (o .taken) (call .piece)) (takenIn (o .line) (o .len) calls) (take len line) (take (o .len) (o .line)) (take (o .written) (o .out)) (writtenOut (o .line) (o .len) calls room)
+    (g .keeps ∙ ap (λ (l : List ℕ). keptAfter l (take len line)) (sym t))
+    (g .says ∙ ap (λ (l : List ℕ). said l (take len line)) (sym t))
+    (session calls (o .line) (o .len) room (g .sound .few) (g .sound .wide) m)
+
+-- the whole, from the empty line on
+pub session-output : (calls : List Call) (line room : List ℕ) → 91 ≤ length line → 3 ≤ length room
+    → writtenOut line 0 calls room ≡ outputOf (takenIn line 0 calls)
+session-output calls line room w m = session calls line 0 room (omega arith) w m ∙ all-said (takenIn line 0 calls)

@@ -1,0 +1,10 @@
+pub mod Residue
+pub mod Windows
+pub mod Counting
+pub mod Changes
+pub mod Turns
+pub mod Symbols
+pub mod Outcome
+pub mod Consequences
+pub mod Fixed
+pub mod Wrong
