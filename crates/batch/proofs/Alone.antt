@@ -7,9 +7,8 @@ use native.Mathlib.Nat.{not-suc-le-zero, le-of-suc-le-suc}
 use native.Mathlib.Omega.{arith}
 use borrow.Author.Tests.{le-ltb}
 use lib.ListN.{length, take, drop, getD, replicate, length-map}
-use lib.Seq.{length-take-le, take-at, drop-at, take-length, drop-length}
+use lib.Seq.{length-take-le, take-at, drop-at}
 use Rattle.laws.specs.Text.{bytes}
-use Rattle.laws.proofs.Bools.{same}
 use Rattle.answers.specs.Batch.{entryVerdict, judged, batchVerdict, entriesAfter}
 use Rattle.answers.specs.declared.Verdict.{Verdict}
 use Rattle.answers.specs.declared.Verdict.the-variants as verdict

@@ -7,7 +7,6 @@ use borrow.Author.Tests.{lt-ltb, le-ltb}
 use lib.ListN.{length, take, drop}
 use Rattle.answers.specs.Batch.{entryVerdict, judged, judgedAs}
 use Rattle.answers.specs.Reading.{addressVerdict}
-use Rattle.answers.specs.declared.Address.{Address}
 use Rattle.answers.specs.declared.Address.the-variants as address
 use Rattle.answers.specs.declared.Entry.{Entry}
 

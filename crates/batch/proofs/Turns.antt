@@ -1,18 +1,16 @@
 -- The loop over a batch by value: after i turns the first i entries are judged and the others are as they were.
-use mathlib.Core.Path.{_≡_, refl, ap, sym, _∙_}
-use mathlib.Core.List.{List, [], _∷_, _++_, map}
+use mathlib.Core.Path.{_≡_, refl, ap}
+use mathlib.Core.List.{List, [], _∷_, map}
 use Prim.Native.Nat.{ℕ, zero, suc, _+_, _<_, _≤_}
 use native.Mathlib.Omega.{arith}
 use borrow.Author.Tests.{lt-ltb, le-ltb}
-use lib.ListN.{length, take, drop, set, getD, take-append-drop}
+use lib.ListN.{length, take, set, getD, take-append-drop}
 use Rattle.laws.proofs.Front.{front, in-place}
-use Rattle.answers.specs.Batch.{judged, entriesAfter}
-use Rattle.answers.specs.declared.Verdict.{Verdict}
+use Rattle.answers.specs.Batch.{judged}
 use Rattle.answers.specs.declared.Verdict.the-variants as verdict
 use Rattle.answers.specs.declared.Entry.{Entry}
-use Rattle.batch.specs.ByValue.{entriesOf, countVerdict, judgedAll}
+use Rattle.batch.specs.ByValue.{countVerdict, judgedAll}
 use Rattle.batch.specs.declared.Batch.{Batch}
-use Rattle.batch.specs.declared.Judged.{Judged}
 
 abbrev pub none : Entry
 none = record { start = 0; len = 0; verdict = 0; version = 0; program = 0 }

@@ -1,6 +1,6 @@
 -- `judge_all` gives what the definition gives. The invariant: after i turns the first i entries are judged, the others as they were (Turns).
 use mathlib.Core.Path.{_≡_, refl}
-use Prim.Native.Nat.{_≤_, _-_, _+_}
+use Prim.Native.Nat.{_≤_, _-_}
 use lib.ListN.{length, length-map}
 use borrow.Author.Needs.{needs}
 use Rattle.batch.proofs.Turns.{after, turn, ended, refused}
