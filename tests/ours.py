@@ -50,3 +50,17 @@ class Ours:
         number = self.library.pennywax_read_bytes(ctypes.c_uint8(code), *slice_of(s), out, ctypes.c_size_t(room),
                                                   ctypes.byref(self.first))
         return number & 255, self.first.value, out.raw
+
+    def write_symbols(self, code, prefix, symbols, room):
+        return self.written(self.library.pennywax_write_symbols, room, ctypes.c_uint8(code), *slice_of(prefix), *slice_of(symbols))
+
+    def write_bytes(self, code, prefix, content, room):
+        return self.written(self.library.pennywax_write_bytes, room, ctypes.c_uint8(code), *slice_of(prefix), *slice_of(content))
+
+    def write_address(self, prefix, version, program, room):
+        return self.written(self.library.pennywax_write_address, room, *slice_of(prefix), ctypes.c_uint8(version), *slice_of(program))
+
+    def written(self, function, room, *arguments):
+        out = ctypes.create_string_buffer(b"\xaa" * room, room)
+        number = function(*arguments, out, ctypes.c_size_t(room), ctypes.byref(self.first))
+        return number & 255, self.first.value, out.raw

@@ -24,3 +24,22 @@ class Rust:
         a.value = self.version.value = 0
         number = self.library.rust_read_address(s, ctypes.c_size_t(len(s)), ctypes.byref(self.version), self.first, ctypes.byref(a)) & 255
         return number, self.version.value, self.first.raw[:a.value]
+
+    def write_symbols(self, code, prefix, symbols):
+        return self.written(self.library.rust_write_symbols, ctypes.c_uint8(code), prefix, ctypes.c_size_t(len(prefix)), symbols,
+                            ctypes.c_size_t(len(symbols)))
+
+    def write_bytes(self, code, prefix, content):
+        return self.written(self.library.rust_write_bytes, ctypes.c_uint8(code), prefix, ctypes.c_size_t(len(prefix)), content,
+                            ctypes.c_size_t(len(content)))
+
+    def write_address(self, prefix, version, program):
+        return self.written(self.library.rust_write_address, prefix, ctypes.c_size_t(len(prefix)), ctypes.c_uint8(version), program,
+                            ctypes.c_size_t(len(program)))
+
+    def written(self, function, *arguments):
+        """(number, what was written)."""
+        a = self.lengths[0]
+        a.value = 0
+        number = function(*arguments, self.first, ctypes.byref(a)) & 255
+        return number, self.first.raw[:a.value]
