@@ -1,0 +1,4 @@
+pub mod Polynomials
+pub mod Products
+pub mod Answers
+pub mod Promises
