@@ -1,17 +1,15 @@
 -- When a writer accepts, and what it then says it writes: the conditions of each order, by order and equality. Writing accepts exactly if the
 -- prefix is legal, the content is, and the whole is within its limit and the room.
-use mathlib.Core.Path.{_≡_, refl, sym, ap, _∙_}
+use mathlib.Core.Path.{_≡_, refl, sym, _∙_}
 use mathlib.Core.Logic.{_↔_}
 use mathlib.Core.Bool.{Bool, true, false}
 use mathlib.Core.List.{List}
 use Prim.Native.Nat.{ℕ, _+_, _≤_, _<_}
-use native.Mathlib.Omega.{arith}
 use borrow.Author.Tests.{ltb-false, le-ltb}
 use lib.Dec.{ltb}
 use lib.ListN.{length}
 use Rattle.laws.specs.Pick.{pick}
 use Rattle.laws.specs.Lists.{Every}
-use Rattle.laws.proofs.Lists.{any-none, none-any}
 use Rattle.paper.specs.Bits.{toSymbols}
 use Rattle.answers.specs.Rules.{prefixVerdict, versionVerdict, lengthVerdict}
 use Rattle.answers.specs.Writing.{symbolLarge, writeVerdict, writeBytesVerdict, writeAddressVerdict}
@@ -23,6 +21,7 @@ use Rattle.answers.proofs.Rooms.{written-apart}
 use Rattle.hrp.proofs.Prefix.{Legal, prefix-accepted}
 use Rattle.segwit.proofs.Rules.{LegalLength, version-accepted, length-accepted}
 use Rattle.encode.specs.Sizes.{sizeVerdict}
+use Rattle.encode.proofs.Large.{all-small, none-large}
 use Rattle.encode.proofs.Orders.{followed, symbols-order, address-order}
 
 -- a string of these symbols is written: n bytes of it
@@ -65,15 +64,6 @@ unfolding sizeVerdict
 accepted-size limit number room m n h k e = rw (le-ltb limit m h, le-ltb room m k, e)
 
 -- ---- symbols
-
-all-small : (symbols : List ℕ) → symbolLarge symbols ≡ false → Every (λ v. v < 32) symbols
-unfolding symbolLarge
-all-small symbols e =
-    any-none (λ v. ltb 31 v) (λ v. v < 32) (λ v l. let h : v ≤ 31 = ltb-false 31 v l in omega arith) symbols e
-
-none-large : (symbols : List ℕ) → Every (λ v. v < 32) symbols → symbolLarge symbols ≡ false
-unfolding symbolLarge
-none-large symbols p = none-any (λ v. ltb 31 v) (λ v. v < 32) (λ v h. le-ltb 31 v (omega arith)) symbols p
 
 module _ (constant : ℕ) (prefix symbols : List ℕ) (room n : ℕ) where
   written-fits : writeVerdict constant prefix symbols room ≡ Accepted n → SymbolsFit prefix symbols room n

@@ -1,6 +1,6 @@
 -- What the functions that fill a buffer come to, as lists: a part of the buffer put back, the data part, the whole string.
 use mathlib.Core.Path.{_≡_, refl, sym, ap, ap₂, _∙_}
-use mathlib.Core.List.{List, [], _∷_, _++_, map, append-nil, append-assoc, map-append}
+use mathlib.Core.List.{List, [], _∷_, _++_, map, append-nil, append-assoc}
 use Prim.Native.Nat.{ℕ, _+_, _-_, _≤_, _<_}
 use native.Mathlib.Nat.{mod-eq-of-lt}
 use native.Mathlib.Numerals.{add-one}
@@ -22,11 +22,10 @@ use Rattle.checksum.specs.Parameters.{constantFor}
 use Rattle.checksum.specs.declared.Checksum.{Checksum}
 use Rattle.checksum.specs.declared.Engine.{Engine}
 use Rattle.checksum.proofs.Written.{engine-writes}
-use Rattle.checksum.proofs.Six.{six-small}
 use Rattle.iter.proofs.Groups.{every-append}
 use Rattle.hrp.specs.Folding.{foldVerdict}
 use Rattle.hrp.specs.Promises.{Folded}
-use Rattle.encode.proofs.Lengths.{written-length}
+use Rattle.encode.proofs.Lengths.{written-length, check-small}
 
 -- a list mapped in place, to its end
 pub whole-mapped : (f : ℕ → ℕ) (d : List ℕ) (i : ℕ) → length d ≤ i → i ≤ length d → front (map f d) d i ≡ map f d
@@ -94,10 +93,6 @@ unfolding foldVerdict roomSmall
 folded-front prefix before r after h f =
     f .buffer ∙ rw (length-map prefix lower, le-ltb (length before) (length prefix) h)
 
-check-small : (constant : ℕ) (prefix symbols : List ℕ) → Every (λ v. v < 32) (checksum constant prefix symbols)
-unfolding checksum
-check-small constant prefix symbols = six-small _
-
 module _ (constant : ℕ) (prefix : List ℕ) (count : ℕ) (d : List ℕ) (room : length prefix + 7 + count ≤ length d)
     (small : Every (λ v. v < 32) (take count (drop (length prefix + 1) d))) (residue n : ℕ) (all : n ≡ count)
     (check : sixSymbols residue ≡ checksum constant prefix (take n (drop (length prefix + 1) d))) (part : List ℕ)
@@ -149,9 +144,9 @@ module _ (constant : ℕ) (prefix : List ℕ) (count : ℕ) (d : List ℕ) (room
         enough = omega (arith, ap length separated, length-append (take (length prefix) d) (49 ∷ part), length-take-le (length prefix) d (omega arith))
 
 -- nothing is lost or added
-pub written-fits : (constant : ℕ) (prefix symbols d out : List ℕ) (count : ℕ) → length symbols ≡ count → length prefix + 7 + count ≤ length d
+pub length-kept : (constant : ℕ) (prefix symbols d out : List ℕ) (count : ℕ) → length symbols ≡ count → length prefix + 7 + count ≤ length d
     → out ≡ writtenString constant prefix symbols ++ drop (length prefix + 7 + count) d → length out ≡ length d
-written-fits constant prefix symbols d out count all room e =
+length-kept constant prefix symbols d out count all room e =
     omega (
       arith,
       ap length e,

@@ -1,17 +1,23 @@
--- How long a written string is: the prefix, the symbols, and seven more for the separator and the checksum.
+-- How long a written string is: the prefix, the symbols, and seven more for the separator and the checksum. The checksum is six symbols.
 use mathlib.Core.Path.{_≡_, refl, ap, ap₂, _∙_}
 use mathlib.Core.List.{List, _∷_, _++_, map}
-use Prim.Native.Nat.{ℕ, suc, _+_}
+use Prim.Native.Nat.{ℕ, suc, _+_, _<_}
 use native.Mathlib.Omega.{arith}
 use lib.ListN.{length, length-append, length-map}
+use Rattle.laws.specs.Lists.{Every}
 use Rattle.paper.specs.Charset.{lower, letter}
 use Rattle.paper.specs.Checksum.{checksum}
 use Rattle.paper.specs.Bits.{toSymbols}
 use Rattle.answers.specs.Writing.{writtenString, writtenAddress}
+use Rattle.checksum.proofs.Six.{six-small}
 
 pub check-length : (constant : ℕ) (prefix symbols : List ℕ) → length (checksum constant prefix symbols) ≡ 6
 unfolding checksum
 check-length constant prefix symbols = refl
+
+pub check-small : (constant : ℕ) (prefix symbols : List ℕ) → Every (λ v. v < 32) (checksum constant prefix symbols)
+unfolding checksum
+check-small constant prefix symbols = six-small _
 
 pub written-length : (constant : ℕ) (prefix symbols : List ℕ) → length (writtenString constant prefix symbols) ≡ length prefix + 7 + length symbols
 unfolding writtenString

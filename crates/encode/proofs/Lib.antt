@@ -1,8 +1,11 @@
 pub mod Lengths
-pub mod Orders
-pub mod Sizes
 pub mod Large
-pub mod Filling
-pub mod Laying
+pub mod Sizes
+pub mod Orders
 pub mod Accepted
 pub mod Answers
+pub mod Filling
+pub mod Laying
+pub mod Letters
+pub mod ReadBack
+pub mod Rewritten

@@ -3,18 +3,15 @@
 use mathlib.Core.Path.{_≡_, refl, sym, ap, _∙_}
 use mathlib.Core.Bool.{Bool, true, false}
 use mathlib.Core.List.{List, [], _∷_, _++_}
-use Prim.Native.Nat.{ℕ, _+_, _<_, _≤_}
-use borrow.Author.Tests.{le-ltb}
-use native.Mathlib.Omega.{arith}
+use Prim.Native.Nat.{ℕ, _+_, _≤_}
 use lib.Dec.{ltb}
 use lib.ListN.{length}
 use Rattle.laws.specs.Pick.{pick}
-use Rattle.laws.proofs.Lists.{none-any}
 use Rattle.paper.specs.Bits.{toSymbols}
 use Rattle.answers.specs.Order.{Rule, _gives_, firstOf}
 use Rattle.answers.specs.Rules.{prefixRules, prefixVerdict, versionUnknown, versionVerdict, lengthWrong, lengthWrongFor0, lengthVerdict}
 use Rattle.answers.specs.Reading.{longerThan, roomSmall}
-use Rattle.answers.specs.Writing.{symbolLarge, writtenString, writeVerdict, writeBytesVerdict, writtenAddress, writeAddressVerdict}
+use Rattle.answers.specs.Writing.{symbolLarge, writeVerdict, writeBytesVerdict, writeAddressVerdict}
 use Rattle.answers.specs.declared.Verdict.{Verdict}
 use Rattle.answers.specs.declared.Verdict.the-variants as verdict
 use Rattle.answers.specs.declared.Written.{Written}
@@ -22,6 +19,7 @@ use Rattle.answers.specs.declared.Written.the-variants as written
 use Rattle.hrp.proofs.Prefix.{prefix-accepted}
 use Rattle.iter.proofs.Lengths.{symbols-below}
 use Rattle.encode.specs.Sizes.{sizeVerdict}
+use Rattle.encode.proofs.Large.{none-large}
 use Rattle.encode.proofs.Lengths.{written-length, address-length}
 
 -- the rules of `sizeVerdict`
@@ -53,15 +51,11 @@ symbols-order constant prefix symbols room =
     (rules-then (prefixRules prefix) (symbolLarge symbols gives 18 ∷ sizeRules 1023 7 room (length prefix + 7 + length symbols))
     (written.Accepted (length prefix + 7 + length symbols)))
 
-none-large : (bytes : List ℕ) → symbolLarge (toSymbols bytes) ≡ false
-unfolding symbolLarge
-none-large bytes = none-any (λ v. ltb 31 v) (λ v. v < 32) (λ v h. le-ltb 31 v (omega arith)) (toSymbols bytes) (symbols-below bytes)
-
 pub bytes-order : (constant : ℕ) (prefix bytes : List ℕ) (room : ℕ)
     → writeBytesVerdict constant prefix bytes room
     ≡ followed (prefixVerdict prefix) (sizeVerdict 1023 7 room (length prefix + 7 + length (toSymbols bytes)))
 unfolding writeBytesVerdict
-bytes-order constant prefix bytes room = symbols-order constant prefix (toSymbols bytes) room ∙ rw (none-large bytes)
+bytes-order constant prefix bytes room = symbols-order constant prefix (toSymbols bytes) room ∙ rw (none-large (toSymbols bytes) (symbols-below bytes))
 
 pub address-order : (prefix : List ℕ) (version : ℕ) (program : List ℕ) (room : ℕ)
     → writeAddressVerdict prefix version program room

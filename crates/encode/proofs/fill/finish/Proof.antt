@@ -4,7 +4,7 @@ use Prim.Native.Nat.{_+_, _-_}
 use lib.ListN.{take, drop, length, length-drop}
 use lib.Seq.{length-take-le}
 use Rattle.checksum.specs.Parameters.{constantFor}
-use Rattle.encode.proofs.Filling.{string-written, written-fits}
+use Rattle.encode.proofs.Filling.{string-written, length-kept}
 use borrow.Author.Needs.{needs}
 use Rattle.encode.proofs.fill.finish.Statement.{statement}
 use Rattle.encode.proofs.fill.finish.Tie as tie
@@ -58,7 +58,7 @@ same-length : tie.Need-same-length
 same-length c =
     let start = c .before .before .before .before .before .before .before .before .before .before .before .before .before in
     let a = start .args in
-    written-fits (constantFor (a .code)) (a .prefix .now) (take (a .count) (drop (length (a .prefix .now) + 1) (a .out .now))) (a .out .now) (c .before .before .to-lower .last .1 .0)
+    length-kept (constantFor (a .code)) (a .prefix .now) (take (a .count) (drop (length (a .prefix .now) + 1) (a .out .now))) (a .out .now) (c .before .before .to-lower .last .1 .0)
     (a .count) (length-take-le (a .count) _ (omega (arith, length-drop (length (a .prefix .now) + 1) (a .out .now)))) (start .pre .0) (returns c)
 
 pub finish-spec : {M : Type 1} → statement M

@@ -1,5 +1,4 @@
 -- The symbols of the bytes are laid into the buffer, and `finish` makes the string of them.
-use mathlib.Core.Path.{ap, _∙_}
 use Prim.Native.Nat.{_+_}
 use lib.ListN.{length}
 use Rattle.paper.specs.Bits.{toSymbols}

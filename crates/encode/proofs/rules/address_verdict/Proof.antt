@@ -1,8 +1,6 @@
 -- `address_verdict` gives what the definition gives: one law of the order for each exit.
-use mathlib.Core.Path.{_≡_, sym, _∙_}
+use mathlib.Core.Path.{sym, _∙_}
 use native.Mathlib.Omega.{arith}
-use Rattle.answers.specs.Rules.{prefixVerdict, versionVerdict, lengthVerdict}
-use Rattle.answers.specs.declared.Verdict.the-variants.{Accepted}
 use Rattle.iter.proofs.Lengths.{symbols-length}
 use Rattle.encode.proofs.Orders.{prefix-short, address-refused, version-refused, length-refused, address-sized}
 use borrow.Author.Needs.{needs}

@@ -1,0 +1,212 @@
+// GF(1024) and its polynomials on fixed inputs, a line each: the inputs and the answers. What must come is in the file stdout, which the
+// Rust wrote (tests/oracle/FIELDS.md).
+use fieldvec::Changed;
+use fieldvec::Element;
+use fieldvec::FieldVec;
+use gf32_ext::Quotient;
+use gf32_ext::ROOT_GENERATOR;
+use libc::STDOUT_FILENO;
+use polynomial::Exponent;
+use polynomial::Root;
+ghost use Prim.Native.Nat.{_<_, _≤_};
+
+fn main() {
+    multiply_all();
+    invert_all();
+    polynomials();
+    residues();
+}
+
+fn multiply_all() {
+    let mut k = 0u16;
+    while k < 512 {
+        multiply_line(k * 37 % 1024, (k * 101 + 77) % 1024);
+        k += 1;
+    }
+}
+
+fn multiply_line(x: u16, y: u16) {
+    text(b"multiply");
+    number(x as u64);
+    number(y as u64);
+    number(gf32_ext::multiply(x, y) as u64);
+    text(b"\n");
+}
+
+fn invert_all() {
+    let mut y = 1u16;
+    while y < 1024 {
+        text(b"inverse");
+        number(y as u64);
+        quotient(gf32_ext::inverse(y));
+        text(b"\n");
+        y += 1;
+    }
+}
+
+fn polynomials() {
+    let mut t = 0u32;
+    while t < 140 {
+        polynomial_line(t);
+        t += 1;
+    }
+}
+
+fn polynomial_line(t: u32)
+    requires { ⌜ t < 140 ⌝ }
+{
+    let p = polynomial_of(t, t % 7 + 1);
+    let q = polynomial_of(t + 300, t / 7 % 7 + 1);
+    text(b"polynomial");
+    number(t as u64);
+    list(p);
+    list(q);
+    text(b" degree");
+    exponent(polynomial::degree(p));
+    text(b" leading");
+    element(polynomial::leading_term(p));
+    text(b" value");
+    element(polynomial::evaluate(p, place(t)));
+    text(b" derivative");
+    changed(polynomial::formal_derivative(p));
+    text(b" product");
+    changed(polynomial::multiply_mod_x_d(p, q, (t % 11) as usize));
+    text(b" convolution");
+    changed(polynomial::convolution(p, q));
+    text(b" roots");
+    roots_of(p);
+    text(b"\n");
+}
+
+fn place(t: u32) -> u16
+    requires { ⌜ t < 140 ⌝ }
+{
+    ((t * 53 + 9) % 1024) as u16
+}
+
+// The zero polynomial's roots are all powers: none is listed.
+fn roots_of(p: FieldVec) {
+    let leading = polynomial::leading_term(p);
+    let Element::Value(c) = leading else {
+        return;
+    };
+    if c == 0 {
+        return;
+    }
+    roots(p);
+}
+
+fn roots(p: FieldVec) {
+    let mut k = 0;
+    while k < 1023 {
+        let found = polynomial::first_root(p, ROOT_GENERATOR, k);
+        let Root::At(e) = found else {
+            return;
+        };
+        if e < k {
+            return;
+        }
+        if 1022 < e {
+            return;
+        }
+        number(e as u64);
+        k = e + 1;
+    }
+}
+
+fn residues() {
+    let mut t = 0u32;
+    while t < 40 {
+        let residue = t * 26843545 % 1073741824;
+        text(b"residue");
+        number(residue as u64);
+        symbols(polynomial::from_residue(residue));
+        text(b"\n");
+        t += 1;
+    }
+}
+
+// ---- the inputs
+
+fn polynomial_of(t: u32, n: u32) -> FieldVec
+    requires { ⌜ (t < 440) × (n ≤ 7) ⌝ }
+{
+    let mut coefficients = FieldVec::new();
+    let mut i = 0;
+    while i < n {
+        let longer = coefficients.push(coefficient(t, i));
+        coefficients = longer.list;
+        i += 1;
+    }
+    coefficients
+}
+
+fn coefficient(t: u32, i: u32) -> u32
+    requires { ⌜ (t < 440) × (i < 7) ⌝ }
+{
+    if (t + 2 * i) % 5 == 0 {
+        return 0;
+    }
+    (t * 389 + i * 617 + (t + i) % 13 * 211 + 1) % 1024
+}
+
+// ---- the answers
+
+fn changed(answer: Changed) {
+    let n = answer.number;
+    if n != 0 {
+        refused(n);
+        return;
+    }
+    let made = answer.list;
+    list(made);
+}
+
+fn element(answer: Element) {
+    match answer {
+        Element::Value(x) => number(x as u64),
+        Element::Refused(n) => refused(n),
+    }
+}
+
+fn quotient(answer: Quotient) {
+    match answer {
+        Quotient::Value(x) => number(x as u64),
+        Quotient::Refused(n) => refused(n),
+    }
+}
+
+fn exponent(answer: Exponent) {
+    match answer {
+        Exponent::Value(x) => number(x as u64),
+        Exponent::Refused(n) => refused(n),
+    }
+}
+
+fn refused(n: u8) {
+    text(b" refused");
+    number(n as u64);
+}
+
+fn list(elements: FieldVec) {
+    number(elements.len as u64);
+    symbols(elements);
+}
+
+fn symbols(elements: FieldVec) {
+    let n = elements.len;
+    let mut i = 0;
+    while i < n {
+        element(elements.get(i));
+        i += 1;
+    }
+}
+
+fn number(n: u64) {
+    text(b" ");
+    io::print_decimal(STDOUT_FILENO, n);
+}
+
+fn text(bytes: &[u8]) {
+    io::write_all(STDOUT_FILENO, bytes);
+}
