@@ -3,3 +3,4 @@ pub mod Detection
 pub mod Sharp
 pub mod Located
 pub mod Reading
+pub mod RoundTrips
