@@ -1,4 +1,4 @@
--- However the input is cut into pieces and whatever output buffers are lent, a session that starts with an empty line writes the answers to
+-- However the input is cut into pieces and whatever output buffers are lent, a run that starts with an empty line writes the answers to
 -- what it took, and no call with room for an answer takes nothing of a piece. Each call is the machine of Machine.antt on the bytes that it took.
 use mathlib.Core.Path.{_≡_, refl, sym, ap, _∙_, subst}
 use mathlib.Core.Bool.{Bool, true, false}
@@ -15,7 +15,7 @@ use Rattle.answers.specs.Lines.{answerTo, outputOf}
 use Rattle.lines.specs.Feeding.{Standing, standing, answered, kept, lineWith, countWith, full, passed, fedFrom, keptCount, start, fed, finished}
 use Rattle.lines.specs.Promises.{WasFed, WasFinished}
 use Rattle.lines.specs.declared.Fed.{Fed}
-use Rattle.lines.specs.Sessions.{Call, outcome, takenIn, writtenOut}
+use Rattle.lines.specs.Calls.{Call, outcome, takenIn, writtenOut}
 use Rattle.lines.proofs.Cut.{answer-length}
 use Rattle.lines.proofs.Machine.{keptWith, keptAfter, said, lastSaid, kept-joined, said-joined, all-said}
 
@@ -218,7 +218,7 @@ pub finish-numbers : (line : List ℕ) (len : ℕ) (out : List ℕ) (r : Fed) (o
     → len ≤ 91 → 91 ≤ length line → 3 ≤ length out → r .written ≤ length out′
 finish-numbers line len out r out′ p f w m = rw (p .answer, p .output) (finished-bound line len out f w m (eqb len 0) refl)
 
--- ---- a session
+-- ---- a whole run
 
 -- a call that took t from the kept bytes k, and the rest, which takes x from what was kept then
 joined : (t x k here wrote rest : List ℕ) → here ≡ keptAfter t k → wrote ≡ said t k → rest ≡ said x here ++ lastSaid (keptAfter x here)
@@ -226,20 +226,20 @@ joined : (t x k here wrote rest : List ℕ) → here ≡ keptAfter t k → wrote
 joined t x k here wrote rest p q w =
     rw (said-joined t x k, kept-joined t x k, q, w, p) (sym (append-assoc (said t k) (said x (keptAfter t k)) (lastSaid (keptAfter x (keptAfter t k)))))
 
-pub session : (calls : List Call) (line : List ℕ) (len : ℕ) (room : List ℕ) → len ≤ 91 → 91 ≤ length line → 3 ≤ length room
+pub whole-run : (calls : List Call) (line : List ℕ) (len : ℕ) (room : List ℕ) → len ≤ 91 → 91 ≤ length line → 3 ≤ length room
     → writtenOut line len calls room ≡ said (takenIn line len calls) (take len line) ++ lastSaid (keptAfter (takenIn line len calls) (take len line))
 unfolding takenIn writtenOut outcome
-session [] line len room f w m = finished-case line len room f w m (eqb len 0) refl
-session (call ∷ calls) line len room f w m =
+whole-run [] line len room f w m = finished-case line len room f w m (eqb len 0) refl
+whole-run (call ∷ calls) line len room f w m =
     let o : Standing = fed (call .piece) line len (call .room) in
     let g : Ran (call .piece) (standing 0 line len (call .room) 0) (fed (call .piece) line len (call .room)) = ran-call (call .piece) line len (call .room) f w in
     let t : take (fed (call .piece) line len (call .room) .taken) (call .piece) ≡ take (g .n) (call .piece) = ap (λ (i : ℕ). take i (call .piece)) (g .count ∙ zero-add (g .n)) in
     joined (take (o .taken) (call .piece)) (takenIn (o .line) (o .len) calls) (take len line) (take (o .len) (o .line)) (take (o .written) (o .out)) (writtenOut (o .line) (o .len) calls room)
     (g .keeps ∙ ap (λ (l : List ℕ). keptAfter l (take len line)) (sym t))
     (g .says ∙ ap (λ (l : List ℕ). said l (take len line)) (sym t))
-    (session calls (o .line) (o .len) room (g .sound .few) (g .sound .wide) m)
+    (whole-run calls (o .line) (o .len) room (g .sound .few) (g .sound .wide) m)
 
 -- the whole, from the empty line on
-pub session-output : (calls : List Call) (line room : List ℕ) → 91 ≤ length line → 3 ≤ length room
+pub whole-output : (calls : List Call) (line room : List ℕ) → 91 ≤ length line → 3 ≤ length room
     → writtenOut line 0 calls room ≡ outputOf (takenIn line 0 calls)
-session-output calls line room w m = session calls line 0 room (omega arith) w m ∙ all-said (takenIn line 0 calls)
+whole-output calls line room w m = whole-run calls line 0 room (omega arith) w m ∙ all-said (takenIn line 0 calls)

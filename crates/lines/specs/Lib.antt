@@ -1,3 +1,3 @@
 pub mod Feeding
 pub mod Promises
-pub mod Sessions
+pub mod Calls

@@ -47,7 +47,7 @@ length-right constant s m n e = ltb-false 1023 (length s) (reading-rules constan
 
 module _ (constant limit w : ℕ) (s t : List ℕ) (m n : ℕ) where
   -- where no pattern of w places in `limit` symbols goes unseen
-  found : Clean limit w → Changed w s t → length (dataPart s) ≤ limit → readVerdict constant s ≡ reading.Accepted m n
+  pub found : Clean limit w → Changed w s t → length (dataPart s) ≤ limit → readVerdict constant s ≡ reading.Accepted m n
       → readVerdict constant t ≡ reading.Refused 9
   found clean c within e =
       let none = reading-rules constant s m n e in

@@ -4,3 +4,4 @@ pub mod Sharp
 pub mod Located
 pub mod Reading
 pub mod RoundTrips
+pub mod Searched

@@ -1,4 +1,4 @@
--- A session: calls of feed one after the other, each with a piece of the input and an output buffer, the line buffer and the count handed on
+-- A run: calls of feed one after the other, each with a piece of the input and an output buffer, the line buffer and the count handed on
 -- from call to call; then one of finish. What they take in all, and what they write in all.
 use mathlib.Core.List.{List, [], _∷_, _++_}
 use Prim.Native.Nat.{ℕ}
