@@ -1,0 +1,33 @@
+#!/usr/bin/env python3
+"""Writes crates/field_replay/stdout: what the Rust answers for the inputs of that program. See FIELDS.md."""
+
+import shutil
+import subprocess
+from pathlib import Path
+
+TESTS = Path(__file__).resolve().parents[1]
+ROOT = TESTS.parent
+SOURCE = ROOT.parent / "shared/docs/src/src"
+WORK = ROOT / "target/rust-fields"
+
+
+def main():
+    shutil.rmtree(WORK / "bech32", ignore_errors=True)
+    shutil.copytree(SOURCE, WORK / "bech32/src")
+    shutil.copy(TESTS / "rust/fields/lfsr.rs", WORK / "bech32/src/primitives/lfsr.rs")
+    (WORK / "bech32/Cargo.toml").write_text(
+        '[package]\nname = "bech32"\nversion = "0.12.0"\nedition = "2021"\n\n'
+        '[features]\ndefault = ["std"]\nstd = ["alloc"]\nalloc = []\n')
+    (WORK / "fields/src").mkdir(parents=True, exist_ok=True)
+    shutil.copy(TESTS / "rust/fields/main.rs", WORK / "fields/src/main.rs")
+    (WORK / "fields/Cargo.toml").write_text(
+        '[package]\nname = "fields"\nversion = "0.0.0"\nedition = "2021"\n\n'
+        '[dependencies]\nbech32 = { path = "../bech32" }\n\n[workspace]\n')
+    run = subprocess.run(["cargo", "run", "--offline", "--quiet"], cwd=WORK / "fields", capture_output=True, encoding="utf-8")
+    if run.returncode:
+        raise RuntimeError("the Rust does not build or run: " + run.stderr[-2000:])
+    (ROOT / "crates/field_replay/stdout").write_text(run.stdout)
+    print(len(run.stdout.splitlines()), "lines")
+
+
+main()
