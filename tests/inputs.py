@@ -5,7 +5,7 @@ import random
 
 from bip350 import BECH32, BECH32M, CHARSET, polymod
 
-AWKWARD = "1qpQ b\x7f\xe9lA"  # separator, symbols, both cases, blank, a letter outside the charset, 127, two bytes, K-like letters
+AWKWARD = "1qpQ b\x7f\xe9lA"  # separator, symbols of both cases, a blank, a letter outside the charset, 127, a character of two bytes
 
 
 def write(prefix, symbols, constant):

@@ -3,21 +3,20 @@
 
 import shutil
 import subprocess
+import sys
 from pathlib import Path
 
 TESTS = Path(__file__).resolve().parents[1]
 ROOT = TESTS.parent
-SOURCE = ROOT.parent / "shared/docs/src/src"
 WORK = ROOT / "target/rust-fields"
+sys.dont_write_bytecode = True
+sys.path.insert(0, str(TESTS / "rust"))
+
+import build
 
 
 def main():
-    shutil.rmtree(WORK / "bech32", ignore_errors=True)
-    shutil.copytree(SOURCE, WORK / "bech32/src")
-    shutil.copy(TESTS / "rust/fields/lfsr.rs", WORK / "bech32/src/primitives/lfsr.rs")
-    (WORK / "bech32/Cargo.toml").write_text(
-        '[package]\nname = "bech32"\nversion = "0.12.0"\nedition = "2021"\n\n'
-        '[features]\ndefault = ["std"]\nstd = ["alloc"]\nalloc = []\n')
+    build.crate_in(WORK, TESTS / "rust/fields/lfsr.rs")
     (WORK / "fields/src").mkdir(parents=True, exist_ok=True)
     shutil.copy(TESTS / "rust/fields/main.rs", WORK / "fields/src/main.rs")
     (WORK / "fields/Cargo.toml").write_text(

@@ -14,15 +14,20 @@ def at_hand():
     return SOURCE.is_dir() and shutil.which("cargo") is not None
 
 
-def build():
-    """The path of the shared library."""
-    work = ROOT / "target/rust-oracle"
+def crate_in(work, stub):
+    """Lays the Rust crate into a folder: its own sources, and a stub for the module that is missing."""
     shutil.rmtree(work / "bech32", ignore_errors=True)
     shutil.copytree(SOURCE, work / "bech32/src")
-    shutil.copy(HERE / "lfsr.rs", work / "bech32/src/primitives/lfsr.rs")
+    shutil.copy(stub, work / "bech32/src/primitives/lfsr.rs")
     (work / "bech32/Cargo.toml").write_text(
         '[package]\nname = "bech32"\nversion = "0.12.0"\nedition = "2021"\n\n'
         '[features]\ndefault = ["std"]\nstd = ["alloc"]\nalloc = []\n')
+
+
+def build():
+    """The path of the shared library."""
+    work = ROOT / "target/rust-oracle"
+    crate_in(work, HERE / "lfsr.rs")
     (work / "oracle/src").mkdir(parents=True, exist_ok=True)
     shutil.copy(HERE / "oracle.rs", work / "oracle/src/lib.rs")
     (work / "oracle/Cargo.toml").write_text(
