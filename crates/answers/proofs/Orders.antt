@@ -52,7 +52,7 @@ module _ {A : Type 0} (refused : ℕ → A) (injective : (m n : ℕ) → refused
     other : (m : ℕ) → T (not (eqb m n)) → refused m ≡ refused n → ⊥
     other m differs e = T-not (eqb m n) differs (rw (injective m n e) (eqb-refl n))
 
-    nowhere : (rules : List Rule) → T (givenNowhere n rules) → firstOf refused rules accepted ≡ refused n → ⊥
+    pub nowhere : (rules : List Rule) → T (givenNowhere n rules) → firstOf refused rules accepted ≡ refused n → ⊥
     nowhere [] t e = apart n (sym e)
     nowhere ((test gives m) ∷ rules) t e =
         by-test test e (nowhere rules (and-right (not (eqb m n)) (givenNowhere n rules) t))

@@ -1,4 +1,4 @@
--- Laws of the paper's polymod: over two lists, its bound, and a loop that takes in what is left of a list, one or two symbols a turn.
+-- polymod as loops compute it: a part of the residue that goes on alone, and a loop that takes in what is left of a list, one or two symbols a turn.
 use mathlib.Core.Path.{_≡_, refl, sym, ap, _∙_}
 use mathlib.Core.List.{List, [], _∷_, _++_, map}
 use Prim.Native.Nat.{ℕ, suc, _+_, _/_, _%_, _^_, _<_, _≤_}
@@ -13,51 +13,7 @@ use Rattle.laws.specs.Xor.{_⊕_}
 use Rattle.laws.proofs.Xor.{⊕-zero}
 use Rattle.paper.specs.Charset.{lower}
 use Rattle.paper.specs.Checksum.{step, polymod, expand, residue}
-use Rattle.checksum.proofs.StepLaws.{step-both, step-lt}
-
-pub polymod-append : (chk : ℕ) (xs ys : List ℕ) → polymod chk (xs ++ ys) ≡ polymod (polymod chk xs) ys
-unfolding polymod
-polymod-append chk [] ys = refl
-polymod-append chk (x ∷ xs) ys = polymod-append (step chk x) xs ys
-
--- an engine that took in the prefix and then the symbols
-pub residue-parts : (prefix symbols : List ℕ) → residue prefix symbols ≡ polymod (polymod 1 (expand (map lower prefix))) symbols
-unfolding residue
-residue-parts prefix symbols = polymod-append 1 (expand (map lower prefix)) symbols
-
-pub residue-append : (prefix xs ys : List ℕ) → residue prefix (xs ++ ys) ≡ polymod (residue prefix xs) ys
-residue-append prefix xs ys =
-    residue-parts prefix (xs ++ ys)
-    ∙ polymod-append (polymod 1 (expand (map lower prefix))) xs ys
-    ∙ ap (λ (r : ℕ). polymod r ys) (sym (residue-parts prefix xs))
-
--- the two halves of a prefix's expansion, and the zero between them
-pub expand-parts : (chk : ℕ) (bytes : List ℕ)
-    → polymod (step (polymod chk (map (λ c. c / 2 ^ 5) bytes)) 0) (map (λ c. c % 2 ^ 5) bytes) ≡ polymod chk (expand bytes)
-unfolding polymod expand
-expand-parts chk bytes = sym (polymod-append chk (map (λ c. c / 2 ^ 5) bytes) (0 ∷ map (λ c. c % 2 ^ 5) bytes))
-
--- symbols below 32, from a residue of 30 bits, leave one of 30 bits
-pub polymod-lt : (chk : ℕ) (vs : List ℕ) → chk < 2 ^ 30 → Every (λ v. v < 32) vs → polymod chk vs < 2 ^ 30
-unfolding polymod
-polymod-lt chk [] h e = h
-polymod-lt chk (v ∷ vs) h e = polymod-lt (step chk v) vs (step-lt chk v (let k : v < 32 = e .0 in omega arith)) (e .1)
-
--- a residue has 30 bits, whatever the prefix
-lows-small : (bytes : List ℕ) → Every (λ v. v < 32) (map (λ c. c % 2 ^ 5) bytes)
-lows-small [] = tt
-lows-small (c ∷ cs) = (mod-lt c (pow-pos 5), lows-small cs)
-
-pub expand-lt : (chk : ℕ) (bytes : List ℕ) → polymod chk (expand bytes) < 2 ^ 30
-expand-lt chk bytes =
-    rw (expand-parts chk bytes) at
-    (polymod-lt (step (polymod chk (map (λ c. c / 2 ^ 5) bytes)) 0) (map (λ c. c % 2 ^ 5) bytes)
-    (step-lt (polymod chk (map (λ c. c / 2 ^ 5) bytes)) 0 (omega arith)) (lows-small bytes))
-
-pub residue-lt : (prefix symbols : List ℕ) → Every (λ v. v < 32) symbols → residue prefix symbols < 2 ^ 30
-residue-lt prefix symbols e =
-    rw (residue-parts prefix symbols)
-    (polymod-lt (polymod 1 (expand (map lower prefix))) symbols (expand-lt 1 (map lower prefix)) e)
+use Rattle.checksum.proofs.StepLaws.{step-both}
 
 -- a part of the residue goes on alone, as if zeros were taken in
 pub polymod-both : (a b : ℕ) (vs : List ℕ) → polymod (a ⊕ b) vs ≡ polymod a (replicate (length vs) 0) ⊕ polymod b vs

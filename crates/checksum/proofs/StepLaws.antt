@@ -9,25 +9,19 @@ use Rattle.laws.specs.Xor.{_⊕_, columns}
 use Rattle.laws.proofs.Xor.{xor-laws, ⊕-zero, ⊕-lt}
 use Rattle.laws.proofs.Additive.{Additive, add-comp, add-sum, add-mod, add-shr, add-shl, columns-add, columns-lt, add0}
 use Rattle.paper.specs.Checksum.{generator, step}
+use Rattle.paper.proofs.Polymod.{push, push-add, step-push}
 use Rattle.checksum.proofs.Columns.{columns-low}
 
+-- a step without a symbol
+step-none : (chk : ℕ) → step chk 0 ≡ push chk
+step-none chk = step-push chk 0 ∙ ⊕-zero (push chk)
+
 -- the symbol is xored in
-pub step-symbol : (chk v : ℕ) → step chk v ≡ step chk 0 ⊕ v
-unfolding step
-step-symbol chk v = simp xor-laws
+step-symbol : (chk v : ℕ) → step chk v ≡ step chk 0 ⊕ v
+step-symbol chk v = step-push chk v ∙ ap (λ (x : ℕ). x ⊕ v) (sym (step-none chk))
 
--- without a symbol: the low 25 bits moved up, and what the generator gives for those that fall out
-pub step-none : (chk : ℕ) → step chk 0 ≡ chk % 2 ^ 25 * 2 ^ 5 ⊕ columns generator (chk / 2 ^ 25)
-unfolding step
-step-none chk = ap (λ (x : ℕ). x ⊕ columns generator (chk / 2 ^ 25)) (⊕-zero (chk % 2 ^ 25 * 2 ^ 5))
-
-pub step-add : Additive (λ chk. step chk 0)
-step-add a b =
-    step-none (a ⊕ b)
-    ∙ add-sum (λ c. c % 2 ^ 25 * 2 ^ 5) (λ c. columns generator (c / 2 ^ 25))
-    (add-comp (λ c. c * 2 ^ 5) (λ c. c % 2 ^ 25) (add-shl 5) (add-mod 25))
-    (add-comp (columns generator) (λ c. c / 2 ^ 25) (columns-add generator) (add-shr 25)) a b
-    ∙ sym (ap₂ (λ (x y : ℕ). x ⊕ y) (step-none a) (step-none b))
+step-add : Additive (λ chk. step chk 0)
+step-add a b = step-none (a ⊕ b) ∙ push-add a b ∙ sym (ap₂ (λ (x y : ℕ). x ⊕ y) (step-none a) (step-none b))
 
 pub step-both : (a b v : ℕ) → step (a ⊕ b) v ≡ step a 0 ⊕ step b v
 step-both a b v = rw (step-symbol (a ⊕ b) v, step-symbol b v, step-add a b) (simp xor-laws)
@@ -42,16 +36,9 @@ pub step-packs : (chk v : ℕ) → chk < 2 ^ 25 → v < 32 → step chk v ≡ ch
 unfolding _⊕_
 step-packs chk v h k = step-small chk v h ∙ xor-shifted chk 5 v k
 
--- a residue of 30 bits, whatever was there before
-pub step-lt : (chk v : ℕ) → v < 2 ^ 30 → step chk v < 2 ^ 30
-unfolding step
-step-lt chk v h =
-    ⊕-lt 30 (chk % 2 ^ 25 * 2 ^ 5 ⊕ v) (columns generator (chk / 2 ^ 25))
-    (⊕-lt 30 (chk % 2 ^ 25 * 2 ^ 5) v (shl-lt 25 5 (mod-lt chk (pow-pos 25))) h)
-    (columns-lt 30 generator (omega arith) (chk / 2 ^ 25))
-
 -- a step without a symbol, of the part that stays in the first step
 stays : (chk : ℕ) → step (chk % 2 ^ 25 * 2 ^ 5) 0 ≡ chk % 2 ^ 20 * 2 ^ 10 ⊕ columns generator (chk / 2 ^ 20)
+unfolding push
 stays chk =
     step-none moved
     ∙ ap₂ (λ (x y : ℕ). x ⊕ columns generator y) low high

@@ -16,7 +16,7 @@ use Rattle.gf32.specs.Bytes.{meaning}
 use Rattle.gf32.specs.declared.Meaning.the-variants as meant
 use Rattle.answers.specs.Reading.{longerThan}
 use Rattle.answers.specs.declared.Verdict.the-variants as verdict
-use Rattle.checksum.proofs.Polymod.{residue-parts}
+use Rattle.paper.proofs.Polymod.{residue-parts}
 use Rattle.decode.specs.Splitting.{belongs, prefixIn, dataIn, payloadIn, programIn, versionIn, checkIn}
 use Rattle.decode.specs.declared.Parts.{Parts}
 use Rattle.decode.specs.declared.Version.the-variants as version

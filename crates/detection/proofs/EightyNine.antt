@@ -9,10 +9,10 @@ use lib.Dec.{lit≤}
 use Rattle.laws.specs.Xor.{_⊕_, columns}
 use Rattle.laws.proofs.Xor.{⊕-eq, ⊕-lt}
 use Rattle.paper.specs.Checksum.{polymod}
+use Rattle.paper.proofs.Polymod.{push, push-add}
 use Rattle.detection.specs.Patterns.{Near, Clean}
 use Rattle.detection.specs.Places.{atPlace, None}
 use Rattle.detection.proofs.Powers.{power, log}
-use Rattle.detection.proofs.Linear.{push, push-add}
 use Rattle.detection.proofs.Detection.{detects}
 use Rattle.detection.proofs.Places.{unpush, unpush-push, place-suc, place-lt}
 use Rattle.detection.proofs.Orbit.{leap}

@@ -8,8 +8,9 @@ use native.Mathlib.Omega.{arith}
 use lib.Dec.{lit<, lit≤}
 use lib.ListN.{length}
 use Rattle.laws.specs.Xor.{_⊕_}
+use Rattle.laws.specs.Times.{times}
 use Rattle.laws.proofs.Xor.{⊕-lt, xor-laws}
-use Rattle.laws.proofs.Additive.{add0, add-four, same-four, times}
+use Rattle.laws.proofs.Additive.{add0, add-four, same-four}
 use Rattle.paper.specs.Checksum.{polymod}
 use Rattle.detection.specs.Patterns.{Symbols, Change, weight, Pattern, Clean}
 use Rattle.detection.specs.Places.{atPlace, None}

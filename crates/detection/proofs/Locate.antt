@@ -9,13 +9,13 @@ use native.Mathlib.Nat.{le-of-suc-le-suc, pos-of-ne-zero}
 use native.Mathlib.Omega.{arith}
 use lib.ListN.{length, getD, set}
 use Rattle.laws.specs.Xor.{_⊕_}
+use Rattle.laws.specs.Times.{times}
 use Rattle.laws.proofs.Xor.{⊕-lt, ⊕-eq, ⊕-cancel, xor-laws}
-use Rattle.laws.proofs.Additive.{times}
 use Rattle.paper.specs.Checksum.{step, polymod}
+use Rattle.paper.proofs.Polymod.{push, step-push}
 use Rattle.detection.specs.Patterns.{Symbols, Change}
 use Rattle.detection.specs.Places.{atPlace, Explains}
 use Rattle.detection.specs.Roots.{value}
-use Rattle.detection.proofs.Linear.{push, step-push}
 use Rattle.detection.proofs.Distance.{symbol-at}
 use Rattle.detection.proofs.Places.{place-add, polymod-start, unpush, unpush-place, place-unpush}
 use Rattle.detection.proofs.Orbit.{turns-nonzero, one-turn}

@@ -5,7 +5,8 @@ use Prim.Native.Nat.{ℕ, zero, suc, _+_, _*_, _%_, _<_}
 use native.Mathlib.Nat.{mod-lt, mod-eq-of-lt, le-of-suc-le-suc, suc-mul, add-comm}
 use native.Mathlib.Omega.{arith}
 use lib.Dec.{lit<}
-use Rattle.laws.proofs.Additive.{Additive, times, times-plus, times-none, times-lt, times-add, times-zero, columns-add, columns-lt}
+use Rattle.laws.specs.Times.{times}
+use Rattle.laws.proofs.Additive.{Additive, times-plus, times-none, times-lt, times-add, times-zero, columns-add, columns-lt}
 use Rattle.detection.specs.Roots.{turn, turns}
 use Rattle.detection.proofs.Powers.{power, log}
 use Rattle.detection.proofs.PowersTest.{turn-power}

@@ -7,11 +7,13 @@ use native.Mathlib.Omega.{arith}
 use lib.Dec.{T, lit<}
 use lib.ListN.{length, replicate, length-replicate}
 use Rattle.laws.specs.Xor.{_⊕_, columns}
+use Rattle.laws.specs.Times.{times}
 use Rattle.laws.proofs.Xor.{⊕-lt, ⊕-zero, zero-⊕}
-use Rattle.laws.proofs.Additive.{Additive, add0, add-comp, add-sum, add-shr, times, times-plus, times-none, times-shift, times-add, times-zero, times-lt, columns-add, columns-lt, agree, basis}
+use Rattle.laws.proofs.Additive.{Additive, add0, add-comp, add-sum, add-shr, times-plus, times-none, times-shift, times-add, times-zero, times-lt, columns-add, columns-lt, agree, basis}
 use Rattle.paper.specs.Checksum.{step, polymod}
+use Rattle.paper.proofs.Polymod.{push, push-add, push-lt, step-push}
 use Rattle.detection.specs.Places.{atPlace}
-use Rattle.detection.proofs.Linear.{push, push-add, push-lt, step-push, xors, linear}
+use Rattle.detection.proofs.Linear.{xors, linear}
 
 -- ---- a change at a place
 

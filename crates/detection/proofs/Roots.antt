@@ -11,10 +11,10 @@ use Rattle.laws.specs.Xor.{_⊕_}
 use Rattle.laws.proofs.Xor.{⊕-zero, zero-⊕, ⊕-assoc}
 use Rattle.laws.proofs.Additive.{times-plus, times-none}
 use Rattle.paper.specs.Checksum.{step, polymod}
+use Rattle.paper.proofs.Polymod.{push, step-push, step-lt}
 use Rattle.detection.specs.Patterns.{Symbols}
 use Rattle.detection.specs.Places.{atPlace}
 use Rattle.detection.specs.Roots.{turn, turns, value, Root}
-use Rattle.detection.proofs.Linear.{push, step-push, step-lt}
 use Rattle.detection.proofs.Places.{step-zero, place-none, place-suc, place-lt}
 use Rattle.detection.proofs.Orbit.{turns-add, turns-zero}
 use Rattle.detection.proofs.Bound.{powerSum}

@@ -9,9 +9,9 @@ use Rattle.laws.specs.Lists.{allBelow}
 use Rattle.laws.specs.Xor.{_⊕_, columns}
 use Rattle.laws.proofs.Below.{equal-below}
 use Rattle.laws.proofs.Additive.{add-comp, add-sum, basis-by, columns-add}
+use Rattle.paper.proofs.Polymod.{push, push-add}
 use Rattle.detection.specs.Roots.{turns, value}
 use Rattle.detection.proofs.Powers.{power, log}
-use Rattle.detection.proofs.Linear.{push, push-add}
 use Rattle.detection.proofs.Orbit.{turns-add, leap, leap-turns}
 use Rattle.detection.proofs.Values.{value-add, value-lt, quickOf, quick}
 

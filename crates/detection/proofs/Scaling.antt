@@ -9,13 +9,14 @@ use native.Mathlib.Omega.{arith}
 use lib.Dec.{T, eqb, ltb, ltb→lt}
 use Rattle.laws.specs.Lists.{allBelow}
 use Rattle.laws.specs.Xor.{_⊕_, columns}
+use Rattle.laws.specs.Times.{times}
 use Rattle.laws.proofs.Bools.{and-left, and-right}
 use Rattle.laws.proofs.Below.{below, equal-below}
-use Rattle.laws.proofs.Additive.{Additive, add0, add-comp, times, times-add, columns-add, agree, basis}
+use Rattle.laws.proofs.Additive.{Additive, add0, add-comp, times-add, columns-add, agree, basis}
 use Rattle.paper.specs.Checksum.{step, polymod}
+use Rattle.paper.proofs.Polymod.{push, push-add, step-push, step-lt}
 use Rattle.detection.specs.Patterns.{Symbols, Change, weight}
 use Rattle.detection.specs.Places.{atPlace}
-use Rattle.detection.proofs.Linear.{push, push-add, step-push, step-lt}
 use Rattle.detection.proofs.Distance.{weight-zero, weight-suc}
 use Rattle.detection.proofs.Places.{place-none, place-suc, place-lt}
 

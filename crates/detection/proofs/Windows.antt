@@ -8,7 +8,8 @@ use native.Mathlib.Nat.{le-of-suc-le-suc, zero-lt-suc}
 use native.Mathlib.Omega.{arith}
 use lib.Dec.{lit<}
 use lib.ListN.{length, length-map}
-use Rattle.laws.proofs.Additive.{add0, times, times-none, times-shift}
+use Rattle.laws.specs.Times.{times}
+use Rattle.laws.proofs.Additive.{add0, times-none, times-shift}
 use Rattle.paper.specs.Checksum.{polymod}
 use Rattle.detection.specs.Patterns.{Symbols, weight, Pattern, Avoids, Clean, NoneFromOne}
 use Rattle.detection.proofs.Places.{polymod-change, polymod-zero}

@@ -19,7 +19,7 @@ use Rattle.gf32.proofs.Field.{fast, fast-is, divides as divides32, product-lt a
 use Rattle.gf32_ext.specs.declared.Quotient.the-variants.{Value, Refused}
 use Rattle.gf32_ext.specs.Field.{low, high, packed, product, inverse, inverseOf, quotient}
 use Rattle.laws.proofs.First.{first-below}
-use Rattle.gf32_ext.proofs.Field.{below1024, low-lt, high-lt, low-packed, high-packed, packed-lt, packed-zero, low-mod, high-mod, sum32-is, ⊕-lt32, product-is, product-comm, product-assoc, product-one, one-product, zero-product}
+use Rattle.gf32_ext.proofs.Field.{below1024, low-lt, high-lt, low-packed, high-packed, packed-lt, packed-zero, low-mod, high-mod, sum32-is, ⊕-lt32, product-is, product-lt, product-mod, product-comm, product-assoc, product-one, one-product, zero-product}
 
 product32-left-comm : (a b c : ℕ) → product32 a (product32 b c) ≡ product32 b (product32 a c)
 product32-left-comm a b c = sym (product32-assoc a b c) ∙ ap (λ (x : ℕ). product32 x c) (product32-comm a b) ∙ product32-assoc b a c
@@ -207,3 +207,35 @@ none-by-inverse x y m e = none-to-divide (eqb (y % 1024) 0) x (inverse y) m e
 pub found-by-inverse : (x y w : ℕ) → Value w ≡ inverseOf y → Value (product x w) ≡ quotient x y
 unfolding inverseOf quotient
 found-by-inverse x y w e = one-to-multiply (eqb (y % 1024) 0) x (inverse y) w e
+
+-- ---- what a quotient says
+
+pub no-quotient : (x y m : ℕ) → Refused m ≡ quotient x y → y % 1024 ≡ 0
+unfolding quotient
+no-quotient x y m e = by (ℕ-discrete (y % 1024) 0)
+  where
+    by : Dec (y % 1024 ≡ 0) → y % 1024 ≡ 0
+    by (yes z) = z
+    by (no d) = absurd (let f : _≡_ {A = ℕ} 0 1 = cc (e, ne-eqb (y % 1024) 0 d) in omega arith)
+
+module _ (x y v : ℕ) (given : Value v ≡ quotient x y) where
+  pub divisor-nonzero : y % 1024 ≡ 0 → ⊥
+  unfolding quotient
+  divisor-nonzero z = let f : _≡_ {A = ℕ} 0 1 = cc (given, eq-eqb (y % 1024) 0 z) in omega arith
+
+  quotient-is : v ≡ product x (inverse y)
+  unfolding quotient
+  quotient-is = cc (given, ne-eqb (y % 1024) 0 divisor-nonzero)
+
+  pub quotient-lt : v < 1024
+  quotient-lt = rw quotient-is (product-lt x (inverse y))
+
+  -- times the divisor it is what was divided
+  pub quotient-times : product v y ≡ x % 1024
+  quotient-times = ap (λ (a : ℕ). product a y) quotient-is ∙ divides y divisor-nonzero x
+
+  -- so of a product with the divisor it is the other factor
+  pub other-factor : (z : ℕ) → x ≡ product z y → v ≡ z % 1024
+  other-factor z e =
+      sym (mod-eq-of-lt quotient-lt)
+      ∙ cancels-left y divisor-nonzero v z (product-comm y v ∙ quotient-times ∙ ap (λ (a : ℕ). a % 1024) e ∙ product-mod z y ∙ product-comm z y)

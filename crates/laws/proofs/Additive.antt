@@ -12,6 +12,7 @@ use lib.Pow.{pow-pos, split}
 use lib.Dec.{T, eqb, eqb→eq}
 use lib.Bits.{bitXor, differ, xor-shr, xor-mod, xor-block, xor-shifted}
 use Rattle.laws.specs.Xor.{_⊕_, columns}
+use Rattle.laws.specs.Times.{times}
 use Rattle.laws.proofs.Bools.{and-left, and-right}
 use Rattle.laws.proofs.Xor.{digit, xor-low, xor-half, ⊕-assoc, ⊕-comm, ⊕-self, zero-⊕, ⊕-zero, ⊕-lt, ⊕-cancel, ⊕-four}
 
@@ -49,10 +50,6 @@ add-shl k a b =
     ∙ ap₂ bitXor (add-zero (a * 2 ^ k)) (add-zero (b * 2 ^ k))
 
 -- ---- a map some number of times
-
-unfoldable pub times : (ℕ → ℕ) → ℕ → ℕ → ℕ
-times f zero y = y
-times f (suc k) y = f (times f k y)
 
 pub times-none : (f : ℕ → ℕ) (y : ℕ) → times f 0 y ≡ y
 unfolding times

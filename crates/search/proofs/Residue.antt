@@ -6,7 +6,7 @@ use lib.Dec.{lit<}
 use Rattle.laws.specs.Xor.{_⊕_}
 use Rattle.laws.proofs.Xor.{⊕-lt, ⊕-eq}
 use Rattle.paper.specs.Checksum.{step}
-use Rattle.detection.proofs.Linear.{step-push, step-lt}
+use Rattle.paper.proofs.Polymod.{step-push, step-lt}
 use Rattle.detection.proofs.Places.{step-zero, push-nonzero}
 use Rattle.search.specs.Walk.{Live}
 

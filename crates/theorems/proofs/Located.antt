@@ -18,13 +18,13 @@ use Rattle.laws.proofs.Bools.{and-first, and-second, both-ways}
 use Rattle.laws.proofs.First.{first-below}
 use Rattle.paper.specs.Charset.{isSymbol, symbol, lower}
 use Rattle.paper.specs.Checksum.{polymod, expand, residue}
+use Rattle.paper.proofs.Polymod.{polymod-append}
 use Rattle.answers.specs.Reading.{dataPart, prefixPart, longerThan, readVerdict}
 use Rattle.answers.specs.Locator.{changeAt, explains, placeVerdict, locateVerdict}
 use Rattle.answers.specs.declared.Reading.the-variants as reading
 use Rattle.answers.specs.declared.Located.the-variants as located
 use Rattle.detection.specs.Patterns.{Symbols, dist}
 use Rattle.detection.specs.Places.{atPlace, Explains}
-use Rattle.detection.proofs.Linear.{polymod-append}
 use Rattle.detection.proofs.Distance.{dist-set, dist-zero}
 use Rattle.detection.proofs.Locate.{one-place, explains-change}
 use Rattle.theorems.specs.Changes.{Changed, ChangedAt}
@@ -166,12 +166,12 @@ module _ {p : ℕ} {s t : List ℕ} (c : ChangedAt p s t) where
   unfolding residue others changed
   residue-after =
       rw (prefix-after changed, part-after changed, map-set symbol (c .part) (c .index) (c .character))
-      (polymod-append (expand (map lower (c .prefix))) (set (map symbol (c .part)) (c .index) (symbol (c .character))) 1)
+      (polymod-append 1 (expand (map lower (c .prefix))) (set (map symbol (c .part)) (c .index) (symbol (c .character))))
 
   residue-before : residue (prefixPart s) (map symbol (dataPart s)) ≡ polymod (polymod 1 (expand (map lower (c .prefix)))) (map symbol (c .part))
   unfolding residue changed
   residue-before =
-      rw (prefix-before changed, part-before changed) (polymod-append (expand (map lower (c .prefix))) (map symbol (c .part)) 1)
+      rw (prefix-before changed, part-before changed) (polymod-append 1 (expand (map lower (c .prefix))) (map symbol (c .part)))
 
   explained : (constant : ℕ) → residue (prefixPart s) (map symbol (dataPart s)) ≡ constant
       → explains constant (residue (prefixPart t) (map symbol (dataPart t))) p ≡ true

@@ -13,6 +13,7 @@ use Rattle.laws.proofs.Bools.{both-ways, and-first, and-second}
 use Rattle.laws.proofs.Lists.{all-every, any-none, none-any, every-all}
 use Rattle.paper.specs.Charset.{isSeparator, isSymbol, symbol, lower, charset}
 use Rattle.paper.specs.Checksum.{polymod, expand, residue}
+use Rattle.paper.proofs.Symbols.{symbols-of}
 use Rattle.answers.specs.Order.{NoneApplies}
 use Rattle.answers.specs.Reading.{dataPart, prefixPart, characterOutside, mixedCase, separatorMissing, prefixEmpty, prefixLong, prefixByteOutside, longerThan, dataShort, checksumWrong, stringRules}
 use Rattle.answers.proofs.Split.{separator-seen, dataPart-of, prefixPart-of}
@@ -32,11 +33,6 @@ symbol-no-separator c e = ne-eqb c 49 (λ same. both-ways (ap isSymbol (sym same
 no-separator : (l : List ℕ) → all isSymbol l ≡ true → any isSeparator l ≡ false
 no-separator l e =
     none-any isSeparator (λ c. isSymbol c ≡ true) symbol-no-separator l (all-every isSymbol (λ c. isSymbol c ≡ true) (λ c h. h) l e)
-
-pub symbols-of : (l : List ℕ) → all isSymbol l ≡ true → Symbols (map symbol l)
-unfolding isSymbol
-symbols-of [] e = tt
-symbols-of (c ∷ l) e = (ltb-true (symbol c) 32 (and-first (isSymbol c) (all isSymbol l) e), symbols-of l (and-second (isSymbol c) (all isSymbol l) e))
 
 module _ {w : ℕ} {s t : List ℕ} (c : Changed w s t) where
   pub part-before : dataPart s ≡ c .part

@@ -1,0 +1,4 @@
+pub mod Elements
+pub mod Verdicts
+pub mod OneChange
+pub mod Locating
