@@ -2,3 +2,4 @@ pub mod Elements
 pub mod Verdicts
 pub mod OneChange
 pub mod Locating
+pub mod Examples

@@ -74,3 +74,16 @@ place-missing constant r none = by-test (ltb (firstBelow 1023 (explains constant
         let h : firstBelow 1023 (explains constant r) < 1023 = ltb-true (firstBelow 1023 (explains constant r)) 1023 seen in
         absurd (none (firstBelow 1023 (explains constant r)) h
         (explains-statement constant r (firstBelow 1023 (explains constant r)) (found-below (explains constant r) 1023 h)))
+
+-- a place that the verdict gives explains
+pub place-given : (constant r p : ℕ) → placeVerdict constant r ≡ located.At p → (p < 1023) × Explains r constant p
+unfolding placeVerdict
+place-given constant r p e = by-test (ltb (firstBelow 1023 (explains constant r)) 1023) refl e
+  where
+    by-test : (b : Bool) → ltb (firstBelow 1023 (explains constant r)) 1023 ≡ b
+        → pick b (located.At (firstBelow 1023 (explains constant r))) (located.Refused 21) ≡ located.At p → (p < 1023) × Explains r constant p
+    by-test false seen e = absurd (let z : _≡_ {A = ℕ} 0 1 = cc in omega arith)
+    by-test true seen e =
+        let h : firstBelow 1023 (explains constant r) < 1023 = ltb-true (firstBelow 1023 (explains constant r)) 1023 seen in
+        let same : p ≡ firstBelow 1023 (explains constant r) = cc in
+        (rw same h, rw same (explains-statement constant r (firstBelow 1023 (explains constant r)) (found-below (explains constant r) 1023 h)))

@@ -1,108 +1,80 @@
--- The locator's place is unique, and after one change it is the changed place.
-use mathlib.Core.Path.{_≡_, refl, sym, ap, ap₂, _∙_, subst}
-use mathlib.Core.Logic.{_≢_, _⊎_, inl, inr}
-use mathlib.Core.Bool.{Bool, true, false, _||_}
+-- The locator: which place it names exactly, that there is at most one, and that after one change it is the changed place.
+use mathlib.Core.Path.{_≡_, refl, sym, ap, _∙_}
+use mathlib.Core.Logic.{_≢_, _↔_}
+use mathlib.Core.Bool.{Bool, true, false}
 use mathlib.Core.List.{List, [], _∷_, _++_, map}
-use Prim.Native.Nat.{ℕ, zero, suc, _+_, _-_, _≤_, _<_}
+use Prim.Native.Nat.{ℕ, zero, suc, _-_, _≤_, _<_}
 use native.Mathlib.Nat.{le-of-suc-le-suc, not-suc-le-zero}
 use native.Mathlib.Omega.{arith}
-use native.Mathlib.Decide.{ℕ-discrete}
-use lib.Dec.{eqb, ltb}
+use lib.Dec.{eqb}
 use lib.ListN.{length, getD, set, length-append, length-map, length-set}
 use lib.Seq.{getD-set-same}
-use borrow.Author.Tests.{eqb-true, eq-eqb, ltb-true, ltb-false, lt-ltb}
+use borrow.Author.Tests.{eqb-true, ltb-true}
 use Rattle.laws.specs.Pick.{pick}
-use Rattle.laws.specs.Xor.{_⊕_}
-use Rattle.laws.specs.Lists.{any, all, anyBelow, firstBelow}
-use Rattle.laws.proofs.Bools.{and-first, and-second, both-ways}
-use Rattle.laws.proofs.First.{first-below}
+use Rattle.laws.specs.Lists.{all}
+use Rattle.laws.proofs.Bools.{and-first, and-second}
 use Rattle.paper.specs.Charset.{isSymbol, symbol, lower}
 use Rattle.paper.specs.Checksum.{polymod, expand, residue}
+use Rattle.paper.proofs.Symbols.{symbols-of}
 use Rattle.paper.proofs.Polymod.{polymod-append}
-use Rattle.answers.specs.Reading.{dataPart, prefixPart, longerThan, readVerdict}
-use Rattle.answers.specs.Locator.{changeAt, explains, placeVerdict, locateVerdict}
+use Rattle.answers.specs.Reading.{dataPart, prefixPart, readVerdict}
+use Rattle.answers.specs.Locator.{explains, placeVerdict, afterReading, locateVerdict}
+use Rattle.answers.specs.declared.Reading.{Reading}
 use Rattle.answers.specs.declared.Reading.the-variants as reading
+use Rattle.answers.specs.declared.Located.{Located}
 use Rattle.answers.specs.declared.Located.the-variants as located
-use Rattle.detection.specs.Patterns.{Symbols, dist}
-use Rattle.detection.specs.Places.{atPlace, Explains}
+use Rattle.detection.specs.Patterns.{dist}
+use Rattle.detection.specs.Places.{Explains}
 use Rattle.detection.proofs.Distance.{dist-set, dist-zero}
 use Rattle.detection.proofs.Locate.{one-place, explains-change}
+use Rattle.checksum.specs.Parameters.{constantFor}
+use Rattle.checksum.specs.declared.Checksum.{Checksum}
+use Rattle.decode.specs.Promises.{WasRead}
+use Rattle.correction.specs.Promises.{WasLocated}
+use Rattle.correction.proofs.Verdicts.{statement-explains, place-found, place-given}
 use Rattle.theorems.specs.Changes.{Changed, ChangedAt}
-use Rattle.theorems.proofs.Strings.{symbols-of, part-before, part-after, prefix-after, prefix-before}
+use Rattle.theorems.proofs.Strings.{part-before, part-after, prefix-after, prefix-before}
 use Rattle.theorems.proofs.Detection.{three-changes-refused, residue-right, length-right}
 
--- ---- document 01's test and the statement
+-- what document 01 asks of a place that is named: reading under this checksum says 9, and some change of the symbol there would be accepted
+abbrev pub Named : ℕ → List ℕ → ℕ → Type 0
+Named constant s p =
+    (readVerdict constant s ≡ reading.Refused 9) × (p < 1023) × Explains (residue (prefixPart s) (map symbol (dataPart s))) constant p
 
-same-change : (p e : ℕ) → changeAt p e ≡ atPlace p e
-unfolding changeAt atPlace
-same-change p e = refl
+module _ (constant : ℕ) (s : List ℕ) (p : ℕ) where
+  place : Located
+  place = placeVerdict constant (residue (prefixPart s) (map symbol (dataPart s)))
 
-test : ℕ → ℕ → ℕ → ℕ → Bool
-test constant r p e = eqb (r ⊕ changeAt p (suc e)) constant
+  -- how the three are found from the verdict, by what reading says
+  by-number : (n : ℕ) (b : Bool) → eqb n 9 ≡ b → readVerdict constant s ≡ reading.Refused n → pick b place (located.Refused n) ≡ located.At p → Named constant s p
+  unfolding place
+  by-number n true nine e named =
+      let found = place-given constant (residue (prefixPart s) (map symbol (dataPart s))) p named in
+      (e ∙ ap reading.Refused (eqb-true n 9 nine), found .0, found .1)
+  by-number n false other e named = absurd (let z : _≡_ {A = ℕ} 0 1 = cc in omega arith)
 
-some-below : (f : ℕ → Bool) (n : ℕ) → anyBelow n f ≡ true → (k : ℕ) × (k < n) × (f k ≡ true)
-some-below f zero e = absurd (both-ways {b = false} e refl)
-some-below f (suc n) e = by-test (f n) refl (some-below f n)
-  where
-    by-test : (b : Bool) → f n ≡ b → (anyBelow n f ≡ true → (k : ℕ) × (k < n) × (f k ≡ true)) → (k : ℕ) × (k < suc n) × (f k ≡ true)
-    by-test true seen later = (n, omega arith, seen)
-    by-test false seen later =
-        let found = later (rw seen at e) in
-        (found .0, let h : found .0 < n = found .1 in omega arith, found .2)
+  by-reading : (r : Reading) → readVerdict constant s ≡ r → afterReading r place ≡ located.At p → Named constant s p
+  by-reading (reading.Accepted m n) e named = absurd (let z : _≡_ {A = ℕ} 0 1 = cc in omega arith)
+  by-reading (reading.Refused n) e named = by-number n (eqb n 9) refl e named
 
-below-some : (f : ℕ → Bool) (n k : ℕ) → k < n → f k ≡ true → anyBelow n f ≡ true
-below-some f zero k h e = absurd (not-suc-le-zero h)
-below-some f (suc n) k h e = by-place (ℕ-discrete k n) (below-some f n k)
-  where
-    or-any : (a b : Bool) → b ≡ true → a || b ≡ true
-    or-any true b e = refl
-    or-any false b e = e
+  is-named : locateVerdict constant s ≡ located.At p → Named constant s p
+  unfolding locateVerdict place
+  is-named e = by-reading (readVerdict constant s) refl e
 
-    by-place : Dec (k ≡ n) → (k < n → f k ≡ true → anyBelow n f ≡ true) → f n || anyBelow n f ≡ true
-    by-place (yes same) later = rw (ap f (sym same) ∙ e) refl
-    by-place (no other) later = or-any (f n) (anyBelow n f) (later (omega (arith, other)) e)
+  named-is : Named constant s p → locateVerdict constant s ≡ located.At p
+  unfolding locateVerdict
+  named-is x =
+      rw (x .0)
+      (place-found constant (residue (prefixPart s) (map symbol (dataPart s))) p (x .1)
+      (statement-explains constant (residue (prefixPart s) (map symbol (dataPart s))) p (x .2)))
 
-pub explains-statement : (constant r p : ℕ) → explains constant r p ≡ true → Explains r constant p
-unfolding explains
-explains-statement constant r p e =
-    let found = some-below (λ e. eqb (r ⊕ changeAt p (suc e)) constant) 31 e in
-    let h : found .0 < 31 = found .1 in
-    record {
-      change = suc (found .0);
-      proper = (omega arith, omega arith);
-      gives = ap (λ (x : ℕ). r ⊕ x) (sym (same-change p (suc (found .0)))) ∙ eqb-true (r ⊕ changeAt p (suc (found .0))) constant (found .2);
-    }
+  -- Document 01's locator names exactly such a place.
+  pub locates-exactly : (locateVerdict constant s ≡ located.At p) ↔ Named constant s p
+  locates-exactly = (is-named, named-is)
 
-pub statement-explains : (constant r p : ℕ) → Explains r constant p → explains constant r p ≡ true
-unfolding explains
-statement-explains constant r p x = by-change (x .change) (x .proper .0) (x .proper .1) (x .gives)
-  where
-    by-change : (e : ℕ) → 0 < e → e < 32 → r ⊕ atPlace p e ≡ constant → anyBelow 31 (λ e. eqb (r ⊕ changeAt p (suc e)) constant) ≡ true
-    by-change zero some small gives = absurd (omega arith)
-    by-change (suc e) some small gives =
-        below-some (λ e. eqb (r ⊕ changeAt p (suc e)) constant) 31 e (omega arith)
-        (eq-eqb (r ⊕ changeAt p (suc e)) constant (ap (λ (x : ℕ). r ⊕ x) (same-change p (suc e)) ∙ gives))
-
--- two places below 1023 never both explain a residue
-pub one-place-explains : (constant r p q : ℕ) → p < 1023 → q < 1023 → explains constant r p ≡ true → explains constant r q ≡ true → p ≡ q
-one-place-explains constant r p q hp hq e f =
-    one-place r constant p q hp hq (explains-statement constant r p e) (explains-statement constant r q f)
-
--- so the place that explains is the one that the verdict gives
-place-found : (constant r p : ℕ) → p < 1023 → explains constant r p ≡ true → placeVerdict constant r ≡ located.At p
-unfolding placeVerdict
-place-found constant r p h e =
-    let first : firstBelow 1023 (explains constant r) ≡ p = first-below (explains constant r) 1023 p h e earlier in
-    rw (first, lt-ltb p 1023 h) refl
-  where
-    earlier : (q : ℕ) → q < p → explains constant r q ≡ false
-    earlier q before = by-test (explains constant r q) refl
-      where
-        by-test : (b : Bool) → explains constant r q ≡ b → explains constant r q ≡ false
-        by-test false seen = seen
-        by-test true seen =
-            let same : q ≡ p = one-place-explains constant r q p (omega arith) h seen e in
-            absurd (omega arith)
+-- There is at most one.
+pub named-once : (constant : ℕ) (s : List ℕ) (p q : ℕ) → Named constant s p → Named constant s q → p ≡ q
+named-once constant s p q x y = one-place (residue (prefixPart s) (map symbol (dataPart s))) constant p q (x .1) (y .1) (x .2) (y .2)
 
 -- ---- one change
 
@@ -198,3 +170,8 @@ module _ {p : ℕ} {s t : List ℕ} (c : ChangedAt p s t) where
           let whole : length s ≡ length (c .prefix ++ 49 ∷ c .part) = ap length (c .before) in
           let place : p ≡ length (c .part) - suc (c .index) = c .place in
           omega (arith, length-append (c .prefix) (49 ∷ c .part))
+
+  -- So does correction::locate.
+  pub locate-names-the-change : (checksum : Checksum) (m n : ℕ) (r : Reading) (r′ : Located) → WasRead checksum s r → r ≡ reading.Accepted m n → WasLocated checksum t r′ → r′ ≡ located.At p
+  locate-names-the-change checksum m n r r′ kept accepted kept′ =
+      kept′ ∙ locates-the-change (constantFor checksum) m n (sym kept ∙ accepted)

@@ -1,0 +1,72 @@
+-- The locator on concrete strings: BIP-173's shortest valid string with one symbol changed; a residue whose three values have one ratio, but no
+-- symbol explains it; and wrong answers that the promise rules out.
+use mathlib.Core.Path.{_≡_, refl, sym, _∙_}
+use Prim.Native.Nat.{ℕ, _<_}
+use native.Mathlib.Omega.{arith}
+use Rattle.laws.specs.Text.{bytes}
+use Rattle.laws.specs.Xor.{_⊕_, columns}
+use Rattle.laws.specs.Times.{times}
+use Rattle.paper.specs.Checksum.{bech32}
+use Rattle.gf32.specs.Field.{products, timesA, sum as sum32, product as product32}
+use Rattle.gf32_ext.specs.Field.{sum, product, power, inverse, quotient}
+use Rattle.gf32_ext.specs.declared.Quotient.the-variants.{Value}
+use Rattle.detection.specs.Roots.{turn, valueOf, value}
+use Rattle.answers.specs.Locator.{changeAt, explains, placeVerdict, locateVerdict}
+use Rattle.answers.specs.declared.Located.{Located}
+use Rattle.answers.specs.declared.Located.the-variants as located
+use Rattle.answers.proofs.Computing.{computing}
+use Rattle.checksum.specs.declared.Checksum.the-variants.{Bech32}
+use Rattle.correction.specs.Promises.{WasLocated}
+use Rattle.correction.proofs.Verdicts.{place-missing}
+use Rattle.correction.proofs.OneChange.{small-change}
+
+-- the last symbol, and the fourth from the end
+pub last-changed : locateVerdict bech32 (bytes "a12uel5q") ≡ located.At 0
+unfolding computing locateVerdict placeVerdict explains changeAt
+last-changed = refl
+
+pub fourth-changed : locateVerdict bech32 (bytes "a12uql5l") ≡ located.At 3
+unfolding computing locateVerdict placeVerdict explains changeAt
+fourth-changed = refl
+
+-- an accepted string, and one that is refused with another number
+pub accepted-none : locateVerdict bech32 (bytes "a12uel5l") ≡ located.Refused 21
+unfolding computing locateVerdict placeVerdict explains changeAt
+accepted-none = refl
+
+pub other-number : locateVerdict bech32 (bytes "12uel5l") ≡ located.Refused 4
+unfolding computing locateVerdict placeVerdict explains changeAt
+other-number = refl
+
+-- ---- one ratio, and no symbol: the Rust panics here. The values 961, 794 and 984 have the ratio 837, and what is left of the first without its
+-- 24th power is 988, which is no symbol.
+
+seen : locateVerdict bech32 (bytes "a10f58vz") ≡ placeVerdict 1 190243612
+unfolding computing locateVerdict
+seen = refl
+
+values : (value 24 (190243612 ⊕ 1) ≡ 961) × (value 25 (190243612 ⊕ 1) ≡ 794) × (value 26 (190243612 ⊕ 1) ≡ 984)
+unfolding value valueOf turn times columns _⊕_
+values = (refl, refl, refl)
+
+one-ratio : quotient 794 961 ≡ Value 837
+unfolding quotient inverse sum product sum32 product32 products timesA _⊕_
+one-ratio = refl
+
+no-symbol : quotient 961 (power 837 24) ≡ Value 988
+unfolding quotient inverse power sum product sum32 product32 products timesA _⊕_
+no-symbol = refl
+
+pub not-in-the-field : locateVerdict bech32 (bytes "a10f58vz") ≡ located.Refused 21
+not-in-the-field =
+    seen ∙ place-missing 1 190243612
+    (λ p h x. let small : 988 < 32 =
+        small-change 190243612 1 (sym (values .0)) (sym (values .1)) (sym (values .2)) p x (sym one-ratio) 988 (sym no-symbol) in omega arith)
+
+-- no answer is right for two places, so no constant one is
+pub not-constant : (r : Located) → WasLocated Bech32 (bytes "a12uel5q") r → WasLocated Bech32 (bytes "a12uql5l") r → ⊥
+not-constant r p q = let wrong : _≡_ {A = ℕ} 0 3 = cc (p, q, last-changed, fourth-changed) in omega arith
+
+-- nor is one that never names a place
+pub not-always-21 : WasLocated Bech32 (bytes "a12uel5q") (located.Refused 21) → ⊥
+not-always-21 p = let wrong : _≡_ {A = ℕ} 0 1 = cc (p, last-changed) in omega arith
