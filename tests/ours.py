@@ -1,21 +1,25 @@
-"""Our functions, called from the static library of the crate face."""
+"""Our functions, called from the static libraries of the crates face and batch."""
 
 import ctypes
+import struct
 import subprocess
 from pathlib import Path
 
 ROOT = Path(__file__).resolve().parents[1]
 BECH32, BECH32M = 1, 2
+ENTRY = struct.Struct("@NNBBN")  # start, length, verdict, version, program length, laid out as C lays out a struct
+BESIDE = b"\xaa" * ENTRY.size    # what lies before a lent list of entries, and after it
 
 
-def build():
-    """Proves the crate if it is not proved yet, and gives it as a shared library."""
-    made = subprocess.run(["rt", "staticlib", "face"], cwd=ROOT, capture_output=True, encoding="utf-8")
-    if made.returncode:
-        raise RuntimeError("rt staticlib face: " + (made.stdout + made.stderr)[-2000:])
-    shared = ROOT / "target/staticlib/libface.so"
-    subprocess.run(["gcc", "-shared", "-o", shared, "-Wl,--whole-archive", ROOT / "target/staticlib/libface.a",
-                    "-Wl,--no-whole-archive"], check=True)
+def build(crates):
+    """Proves the crates if they are not proved yet, and gives their libraries as one shared library."""
+    archives = [ROOT / f"target/staticlib/lib{crate}.a" for crate in crates]
+    for crate in crates:
+        made = subprocess.run(["rt", "staticlib", crate], cwd=ROOT, capture_output=True, encoding="utf-8")
+        if made.returncode:
+            raise RuntimeError(f"rt staticlib {crate}: " + (made.stdout + made.stderr)[-2000:])
+    shared = ROOT / f"target/staticlib/lib{'_'.join(crates)}.so"
+    subprocess.run(["gcc", "-shared", "-o", shared, "-Wl,--whole-archive", *archives, "-Wl,--no-whole-archive"], check=True)
     return ctypes.CDLL(str(shared))
 
 
@@ -27,8 +31,9 @@ def slice_of(content):
 class Ours:
     """Each method gives the number and what else the function gives; a buffer that is written is filled with 0xAA before, and given back whole."""
 
-    def __init__(self):
-        self.library = build()
+    def __init__(self, *more):
+        """More crates than face can be named."""
+        self.library = build(["face", *more])
         self.version, self.first, self.second = ctypes.c_uint8(), ctypes.c_size_t(), ctypes.c_size_t()
 
     def check_address(self, s):
@@ -64,3 +69,12 @@ class Ours:
         out = ctypes.create_string_buffer(b"\xaa" * room, room)
         number = function(*arguments, out, ctypes.c_size_t(room), ctypes.byref(self.first))
         return number & 255, self.first.value, out.raw
+
+    def judge_batch(self, memory, size, entries):
+        """The buffer is the first `size` bytes of the memory, and the entries are bytes. Gives the number, and as they are afterwards the
+        memory and the entries with what lies beside them."""
+        text = ctypes.create_string_buffer(memory, len(memory))
+        lent = ctypes.create_string_buffer(BESIDE + entries + BESIDE, len(entries) + 2 * ENTRY.size)
+        number = self.library.pennywax_judge_batch(text, ctypes.c_size_t(size), ctypes.byref(lent, ENTRY.size),
+                                                   ctypes.c_size_t(len(entries) // ENTRY.size))
+        return number & 255, text.raw, lent.raw

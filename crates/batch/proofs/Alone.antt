@@ -9,7 +9,7 @@ use borrow.Author.Tests.{le-ltb}
 use lib.ListN.{length, take, drop, getD, replicate, length-map}
 use lib.Seq.{length-take-le, take-at, drop-at}
 use Rattle.laws.specs.Text.{bytes}
-use Rattle.answers.specs.Batch.{entryVerdict, judged, batchVerdict, entriesAfter}
+use Rattle.answers.specs.Batch.{entryVerdict, judged, batchVerdict, numberOfVerdict, entriesAfter}
 use Rattle.answers.specs.declared.Verdict.{Verdict}
 use Rattle.answers.specs.declared.Verdict.the-variants as verdict
 use Rattle.answers.specs.declared.Entry.{Entry}
@@ -32,9 +32,9 @@ map-at z f [] i h = absurd (not-suc-le-zero h)
 map-at z f (x ∷ l) zero h = refl
 map-at z f (x ∷ l) (suc i) h = map-at z f l i (le-of-suc-le-suc h)
 
-module _ (buffer : List ℕ) (before : List Entry) (r : Verdict) (after : List Entry) (is : BatchJudged buffer before r after) (few : length before ≤ 32) where
-  pub lent-accepted : r ≡ verdict.Accepted
-  lent-accepted = is .answer ∙ few-accepted before few
+module _ (buffer : List ℕ) (before : List Entry) (r : ℕ) (after : List Entry) (is : BatchJudged buffer before r after) (few : length before ≤ 32) where
+  pub lent-accepted : r ≡ 0
+  lent-accepted = is .number ∙ ap numberOfVerdict (few-accepted before few)
 
   pub lent-all : after ≡ map (judged buffer) before
   lent-all = is .entries ∙ ap (λ v. entriesAfter v buffer before) (few-accepted before few)
@@ -90,11 +90,11 @@ module _ (buffer : List ℕ) (b : Batch) (enough : b .count ≤ length (b .entri
       (after-length (countVerdict (b .count)) buffer (entriesOf b) ∙ list-length)
       ∙ ap (λ v. entriesAfter v buffer (entriesOf b)) same-verdict
 
-  pub forms-agree : (r : Judged) (v : Verdict) (after : List Entry) → AllJudged buffer b r → BatchJudged buffer (entriesOf b) v after
-      → (r .verdict ≡ v) × (entriesOf (r .batch) ≡ after)
+  pub forms-agree : (r : Judged) (n : ℕ) (after : List Entry) → AllJudged buffer b r → BatchJudged buffer (entriesOf b) n after
+      → (numberOfVerdict (r .verdict) ≡ n) × (entriesOf (r .batch) ≡ after)
   unfolding judgedAll
-  forms-agree r v after p q =
-      (ap (λ j. j .verdict) p ∙ same-verdict ∙ sym (q .answer), ap (λ j. entriesOf (j .batch)) p ∙ same-entries ∙ sym (q .entries))
+  forms-agree r n after p q =
+      (ap (λ j. numberOfVerdict (j .verdict)) p ∙ ap numberOfVerdict same-verdict ∙ sym (q .number), ap (λ j. entriesOf (j .batch)) p ∙ same-entries ∙ sym (q .entries))
 
 -- ---- wrong answers ruled out: an entry outside the buffer does not stop the batch, and 33 entries are refused
 
@@ -112,7 +112,7 @@ two-computed : map (judged taproot-text) two-entries ≡ two-judged
 unfolding computing entryVerdict judged taproot-text
 two-computed = refl
 
-pub not-stopped-by-20 : (r : Verdict) (after : List Entry) → BatchJudged taproot-text two-entries r after → after ≡ two-judged
+pub not-stopped-by-20 : (r : ℕ) (after : List Entry) → BatchJudged taproot-text two-entries r after → after ≡ two-judged
 not-stopped-by-20 r after is = lent-all taproot-text two-entries r after is (omega arith) ∙ two-computed
 
 pub not-stopped-by-value : (rest : List Entry) (r : Judged) → AllJudged taproot-text (record { entries = two-entries ++ rest; count = 2 }) r
@@ -120,7 +120,7 @@ pub not-stopped-by-value : (rest : List Entry) (r : Judged) → AllJudged taproo
 unfolding computing judgedAll countVerdict entryVerdict judged taproot-text
 not-stopped-by-value rest r is = rw is refl
 
-pub thirty-three-refused : (buffer : List ℕ) (e : Entry) (r : Verdict) (after : List Entry) → BatchJudged buffer (replicate 33 e) r after
-    → (r ≡ verdict.Refused 19) × (after ≡ replicate 33 e)
+pub thirty-three-refused : (buffer : List ℕ) (e : Entry) (r : ℕ) (after : List Entry) → BatchJudged buffer (replicate 33 e) r after
+    → (r ≡ 19) × (after ≡ replicate 33 e)
 unfolding batchVerdict
-thirty-three-refused buffer e r after is = (is .answer, is .entries)
+thirty-three-refused buffer e r after is = (is .number, is .entries)

@@ -3,8 +3,7 @@ use mathlib.Core.Path.{_≡_}
 use mathlib.Core.List.{List}
 use Prim.Native.Nat.{ℕ}
 use Rattle.laws.proofs.Bools.{same}
-use Rattle.answers.specs.Batch.{judged, batchVerdict, entriesAfter}
-use Rattle.answers.specs.declared.Verdict.{Verdict}
+use Rattle.answers.specs.Batch.{judged, batchVerdict, numberOfVerdict, entriesAfter}
 use Rattle.answers.specs.declared.Entry.{Entry}
 use Rattle.batch.specs.ByValue.{judgedAll}
 use Rattle.batch.specs.declared.Batch.{Batch}
@@ -17,14 +16,14 @@ EntryJudged buffer entry r = r ≡ judged buffer entry
 pub entry-judged-once : (buffer : List ℕ) (entry r s : Entry) → EntryJudged buffer entry r → EntryJudged buffer entry s → r ≡ s
 entry-judged-once buffer entry r s p q = same p q
 
--- batch::judge_batch
-pub record BatchJudged (buffer : List ℕ) (before : List Entry) (r : Verdict) (after : List Entry) : Type 0 where
-  pub answer : r ≡ batchVerdict before
+-- batch::pennywax_judge_batch
+pub record BatchJudged (buffer : List ℕ) (before : List Entry) (r : ℕ) (after : List Entry) : Type 0 where
+  pub number : r ≡ numberOfVerdict (batchVerdict before)
   pub entries : after ≡ entriesAfter (batchVerdict before) buffer before
 
-pub batch-judged-once : (buffer : List ℕ) (before : List Entry) (r r′ : Verdict) (after after′ : List Entry)
+pub batch-judged-once : (buffer : List ℕ) (before : List Entry) (r r′ : ℕ) (after after′ : List Entry)
     → BatchJudged buffer before r after → BatchJudged buffer before r′ after′ → (r ≡ r′) × (after ≡ after′)
-batch-judged-once buffer before r r′ after after′ p q = (same (p .answer) (q .answer), same (p .entries) (q .entries))
+batch-judged-once buffer before r r′ after after′ p q = (same (p .number) (q .number), same (p .entries) (q .entries))
 
 -- batch::judge_all
 abbrev pub AllJudged : List ℕ → Batch → Judged → Type 0

@@ -11,6 +11,8 @@ ghost use Rattle.batch.specs.Promises.{EntryJudged, BatchJudged, AllJudg
 
 pub const MAX_ENTRIES: usize = 32;
 
+const ACCEPTED: u8 = 0;
+
 // The first `count` of the entries are the list.
 pub struct Batch {
     pub entries: [Entry; 32],
@@ -66,12 +68,13 @@ fn with_results(entry: Entry, verdict: u8, version: u8, program: usize) -> Entry
     }
 }
 
-// Each entry of the lent list judged in its place.
-pub fn judge_batch(buffer: &[u8], entries: &mut [Entry]) -> Verdict
+// Each entry of the lent list judged in its place. The answer is a number, 0 or 19, as callers that know C have no enums.
+#[no_mangle]
+pub extern "C" fn pennywax_judge_batch(buffer: &[u8], entries: &mut [Entry]) -> u8
     ensures { λ r. ⌜ BatchJudged (now (buffer .entry)) (now (entries .entry)) r (now (entries .exit)) ⌝ }
 {
     if MAX_ENTRIES < entries.len() {
-        return Verdict::Refused(BATCH_LONG);
+        return BATCH_LONG;
     }
     let mut i = 0;
     while i < entries.len() {
@@ -79,7 +82,7 @@ pub fn judge_batch(buffer: &[u8], entries: &mut [Entry]) -> Verdict
         entries[i] = judge(buffer, entry);
         i += 1;
     }
-    Verdict::Accepted
+    ACCEPTED
 }
 
 // The same for a list by value.

@@ -1,6 +1,6 @@
 // Batches by value: none, 1, 32 and 33 of the entries below. For each batch a line with its count and its number, then a line for each entry
 // shown: start, length, verdict, version, program length. What must come is in the file stdout; where each number is from stands beside the
-// entry. An entry that is not to be judged keeps the 99 that it came with.
+// entry. An entry that is not to be judged keeps the 99 that it came with. tests/parts/45-batch-lent judges the same entries as a lent list.
 use answers::Entry;
 use answers::Verdict;
 use batch::Batch;

@@ -1,4 +1,4 @@
--- `judge_batch` keeps its promise: a walk of its MIR, with a loop and a call in it. In each turn the borrow is opened and closed twice: the entry is read,
+-- `pennywax_judge_batch` keeps its promise: a walk of its MIR, with a loop and a call in it. In each turn the borrow is opened and closed twice: the entry is read,
 -- `judge` is called on it, and what it returned is stored in its place. The invariant: after i turns the list is `cur buffer entries i`.
 use mathlib.Core.Path.{_≡_, refl, sym, ap, subst, _∙_}
 use Prim.Native.Nat.{ℕ, _+_, _-_, _*_, _<_, _≤_, _^_, zero-le}
@@ -24,12 +24,13 @@ use contract.Monad.{Fun, fact}
 use contract.Running.{givenOf, tables, tablesOf}
 use types.Kit.{Given, Item, ‵, raw, runs, anyQ, atRet, Sq, _⊛_, ⋆, some, later, _$_, _∵_, !, qed, by, move, keep, drop, use1, use2, split, join, pick, rewrite, fsplit, fjoin, suffices, frame, await, done}
 use types.Run.{look, look-raw, init, store, store-raw, forget, stop, hop, fld, from, load, lit, of-opd, bin, assigns, assigns-last, first, skips, jumps, blocks, branches, and-then, no-more, land, returns, returns-within, enter, alloc1, alloc0, params1, pass1, pass0, free1, free0, exec, Below, again, loops}
-use types.Part.{whole, sub, look-in, agg}
+use types.Part.{whole, sub, look-in}
 use sound.WpLaws.{fmOf, WpFn-mono}
 use borrow.Author.Needs.{scaled-fits}
 use denote.RattleType.{owns}
 use denote.Shadow.{pureI}
 use denote.Laws.{Is, shows}
+use denote.Plain.{uint-makes}
 use denote.Memory.{pointee}
 use denote.Builtin.{u8}
 use borrow.Author.Tests.{lt-ltb, le-ltb}
@@ -40,7 +41,6 @@ use denote.Index.{row, place-is, elem-out, elem-back, elem-put, opens-slice, clo
 use denote.Signature.{plain}
 use denote.Steps.{owned, peeks, heard, nothing}
 use denote.Struct.Laws as LL
-use denote.Enum.Laws as EL
 use denote.Triple.Statement.{Contract, Triple}
 use denote.Triple.Call.{calls-at}
 use denote.Triple.Entry.{onEntry}
@@ -53,22 +53,18 @@ use Rattle.laws.proofs.Front.{front, front-length, front-all, in-place}
 use Rattle.answers.specs.Batch.{judged, batchVerdict}
 use Rattle.batch.specs.Promises.{BatchJudged}
 use Rattle.answers.specs.declared.Entry.{Entry}
-use Rattle.answers.specs.declared.Verdict.{Verdict}
-use Rattle.answers.specs.declared.Verdict.the-variants as verdict
 use Rattle.answers.proofs.Entry as E
 use Rattle.answers.proofs.Entry.Laws as E′
-use Rattle.answers.proofs.Verdict as Answer
-use Rattle.answers.proofs.Verdict.Laws as Answer′
 use Rattle.batch.proofs.Turns.{none}
 use Rattle.batch.proofs.judge as judge
 use Rattle.batch.proofs.judge.Symbol as judge-def
 use Rattle.batch.proofs.judge.Symbol.{name as #batch·judge}
 use Rattle.batch.proofs.judge.Met as judge-thm
-use Rattle.batch.proofs.judge_batch.Key.{name as #batch·judge-batch}
-use Rattle.batch.proofs.judge_batch as all′
-use Rattle.batch.proofs.judge_batch.Statement as stated
-use Rattle.batch.proofs.judge_batch.Code as code
-use Rattle.batch.proofs.judge_batch.Code.Mir as mir′
+use Rattle.batch.proofs.pennywax_judge_batch.Key.{name as #batch·pennywax-judge-batch}
+use Rattle.batch.proofs.pennywax_judge_batch as all′
+use Rattle.batch.proofs.pennywax_judge_batch.Statement as stated
+use Rattle.batch.proofs.pennywax_judge_batch.Code as code
+use Rattle.batch.proofs.pennywax_judge_batch.Code.Mir as mir′
 
 abbrev Arg : Type 0
 Arg = RefT (List ℕ) × (RefT (List Entry) × Unit {0})
@@ -79,6 +75,9 @@ stayed = (stay-none-slice (0 ∷ []) tt (plain (λ _. u8)) yes, (stay-slice (1 �
 abbrev word : Ty
 word = tyInt w64
 
+abbrev byte : Ty
+byte = tyInt w8
+
 abbrev slice : Ty
 slice = sliceTy (tyRef (named 1) mut (pointee (E.the-row .written)))
 
@@ -88,15 +87,6 @@ texts = sliceTy (tyRef (named 0) imm (tyInt w8))
 abbrev mach : Entry → Val
 mach e = vstruct (vcons (vint w64 (e .start)) (vcons (vint w64 (e .len)) (vcons (vint w8 (e .verdict)) (vcons (vint w8 (e .version)) (vcons (vint w64 (e .program)) vnil)))))
 
-abbrev made : Verdict → Val
-made r = EL.val Answer.the-type Answer′.the-laws r
-
-long-is : Is Answer.the-row (verdict.Refused 19) (made (verdict.Refused 19) ∷ [])
-long-is = EL.owes Answer.the-type Answer′.the-laws (verdict.Refused 19) ((refl, lit< tt), tt)
-
-accepted-is : Is Answer.the-row verdict.Accepted (made verdict.Accepted ∷ [])
-accepted-is = EL.owes Answer.the-type Answer′.the-laws verdict.Accepted tt
-
 -- the function with its locals' types written out, so that they compare by their names
 abbrev written : Fn
 written = record {
@@ -104,7 +94,7 @@ written = record {
   outlives = code.function .outlives;
   params = code.function .params;
   locals =
-      local Answer′.mir valueLocal ∷ local texts valueLocal ∷ local slice valueLocal ∷ local word valueLocal ∷ local E′.mir valueLocal ∷ local word valueLocal
+      local byte valueLocal ∷ local texts valueLocal ∷ local slice valueLocal ∷ local word valueLocal ∷ local E′.mir valueLocal ∷ local word valueLocal
       ∷ local tyBool valueLocal ∷ local word valueLocal ∷ local tyBool valueLocal ∷ local tyPtr valueLocal ∷ local E′.mir valueLocal ∷ local tyPtr valueLocal ∷ [];
   body = code.function .body;
 }
@@ -162,24 +152,24 @@ module _ {M : Type 1} (𝓤 : URA M) (H : Heap 𝓤) (A : Atoms 𝓤) (W : Given
   abbrev Post : Val → SProp 𝓤
   Post = walkOf 𝓤 H A all′.ended stayed (all′.clauses 𝓤 H A mem run) .post (((κ₀, (κ, tt)), (q₀, (q, tt)), tt, x, at), tt)
 
-  exits : (r : Verdict) (zs : List Entry) (n : length zs ≡ length ys) → Is Answer.the-row r (made r ∷ []) → BatchJudged tx ys r zs
-      → ent 𝓤 (⋆ 𝓤 H A (‵ (fobs γ (codedHoleys E.the-row .code (heres E.the-row zs))) ∷ ‵ (fbor κ (Held E.the-row (length zs) b o γ)) ∷ ‵ (flft κ q) ∷ ‵ Own ∷ ‵ (flft κ₀ q₀) ∷ [])) (Post (made r))
+  exits : (r : ℕ) (zs : List Entry) (n : length zs ≡ length ys) → r < 256 → BatchJudged tx ys r zs
+      → ent 𝓤 (⋆ 𝓤 H A (‵ (fobs γ (codedHoleys E.the-row .code (heres E.the-row zs))) ∷ ‵ (fbor κ (Held E.the-row (length zs) b o γ)) ∷ ‵ (flft κ q) ∷ ‵ Own ∷ ‵ (flft κ₀ q₀) ∷ [])) (Post (vint w8 r))
   exits r zs n rf e =
       qed W (‵ (fobs γ (codedHoleys E.the-row .code (heres E.the-row zs))) ∷ ‵ (fbor κ (Held E.the-row (length zs) b o γ)) ∷ ‵ (flft κ q) ∷ ‵ Own ∷ ‵ (flft κ₀ q₀) ∷ []) ∵
-      suffices ! _ (ends-at 𝓤 H A all′.ended stayed (all′.clauses 𝓤 H A mem run) W (((κ₀, (κ, tt)), (q₀, (q, tt)), tt, x, at), tt) (made r) r (tt, (zs, tt)) (tt, (n, tt))) $ says ! e $
+      suffices ! _ (ends-at 𝓤 H A all′.ended stayed (all′.clauses 𝓤 H A mem run) W (((κ₀, (κ, tt)), (q₀, (q, tt)), tt, x, at), tt) (vint w8 r) r (tt, (zs, tt)) (tt, (n, tt))) $ says ! e $
       -- [obs; the borrow; list's token; what text owns; text's token]
       nothing ! $ move ! (3 ∷ 0 ∷ []) $ join ! $ move ! (4 ∷ 0 ∷ []) $ join ! $ frame ! $
       fjoin ! $ pureI ! (at-slice E.the-row (record { ptr = (b, o); name = γ; now = zs }) (at .1 .0)) (tt, (tt, tt)) (ap (λ (m : ℕ). sliceVal (b, o) m ∷ []) (sym n), subst (Room E.the-row) (sym n) gn) $ fjoin ! $
-      nothing ! $ move ! (1 ∷ 0 ∷ []) $ fjoin ! $ move ! (1 ∷ 0 ∷ []) $ fjoin ! $ owned ! Answer.the-row (Is Answer.the-row) (EL.makes Answer.the-type Answer′.the-plain 𝓤 H A) r _ rf $ move ! (1 ∷ 0 ∷ []) $ done !
+      nothing ! $ move ! (1 ∷ 0 ∷ []) $ fjoin ! $ move ! (1 ∷ 0 ∷ []) $ fjoin ! $ owned ! u8 (Is u8) (uint-makes 𝓤 H A W w8) r _ (refl, rf) $ move ! (1 ∷ 0 ∷ []) $ done !
 
   -- the two ways out
-  over-32 : 32 < length ys → BatchJudged tx ys (verdict.Refused 19) ys
+  over-32 : 32 < length ys → BatchJudged tx ys 19 ys
   unfolding batchVerdict
-  over-32 h = record { answer = rw (lt-ltb 32 (length ys) h); entries = rw (lt-ltb 32 (length ys) h) }
+  over-32 h = record { number = rw (lt-ltb 32 (length ys) h); entries = rw (lt-ltb 32 (length ys) h) }
 
-  all-judged : (zs : List Entry) → length ys ≤ 32 → zs ≡ map (judged tx) ys → BatchJudged tx ys verdict.Accepted zs
+  all-judged : (zs : List Entry) → length ys ≤ 32 → zs ≡ map (judged tx) ys → BatchJudged tx ys 0 zs
   unfolding batchVerdict
-  all-judged zs h e = record { answer = rw (le-ltb 32 (length ys) h); entries = rw (le-ltb 32 (length ys) h) e }
+  all-judged zs h e = record { number = rw (le-ltb 32 (length ys) h); entries = rw (le-ltb 32 (length ys) h) e }
 
   abbrev to-judged : Entry → Val → Callee 𝓤 H A mem run .Ghost
   to-judged r v = (((κ₀, tt), (q₀, tt), tt, (s, (r, tt)), (u ∷ [], (v ∷ [], tt))), tt)
@@ -204,14 +194,14 @@ module _ {M : Type 1} (𝓤 : URA M) (H : Heap 𝓤) (A : Atoms 𝓤) (W : Given
     Λ = 𝓣 .Λ
 
     abbrev En : Env 𝓤 H
-    En = (Answer′.mir, l₀) ∷ (texts, l₁) ∷ (slice, l₂) ∷ (word, l₃) ∷ (E′.mir, l₄) ∷ (word, l₅) ∷ (tyBool, l₆) ∷ (word, l₇) ∷ (tyBool, l₈) ∷ (tyPtr, l₉) ∷ (E′.mir, l₁₀) ∷ (tyPtr, l₁₁) ∷ []
+    En = (byte, l₀) ∷ (texts, l₁) ∷ (slice, l₂) ∷ (word, l₃) ∷ (E′.mir, l₄) ∷ (word, l₅) ∷ (tyBool, l₆) ∷ (word, l₇) ∷ (tyBool, l₈) ∷ (tyPtr, l₉) ∷ (E′.mir, l₁₀) ∷ (tyPtr, l₁₁) ∷ []
 
     abbrev At : Upto → List (Item 𝓤)
     At i =
         ‵ (froom tyPtr l₁₁ 0) ∷ ‵ (fdies tyPtr l₁₁) ∷ ‵ (froom E′.mir l₁₀ 0) ∷ ‵ (fdies E′.mir l₁₀) ∷ ‵ (froom tyPtr l₉ 0) ∷ ‵ (fdies tyPtr l₉)
         ∷ ‵ (froom tyBool l₈ 0) ∷ ‵ (fdies tyBool l₈) ∷ ‵ (froom word l₇ 0) ∷ ‵ (fdies word l₇) ∷ ‵ (froom tyBool l₆ 0) ∷ ‵ (fdies tyBool l₆) ∷ ‵ (froom word l₅ 0) ∷ ‵ (fdies word l₅) ∷ ‵ (froom E′.mir l₄ 0) ∷ ‵ (fdies E′.mir l₄)
         ∷ ‵ (fat fullShare word l₃ 0 (vint w64 (i .0))) ∷ ‵ (fdies word l₃) ∷ ‵ (fat fullShare slice l₂ 0 (sliceVal (b, o) (length ys))) ∷ ‵ (fdies slice l₂)
-        ∷ ‵ (fat fullShare texts l₁ 0 u) ∷ ‵ (fdies texts l₁) ∷ ‵ (froom Answer′.mir l₀ 0) ∷ ‵ (fdies Answer′.mir l₀)
+        ∷ ‵ (fat fullShare texts l₁ 0 u) ∷ ‵ (fdies texts l₁) ∷ ‵ (froom byte l₀ 0) ∷ ‵ (fdies byte l₀)
         ∷ ‵ (fobs γ (codedHoleys E.the-row .code (heres E.the-row (cur tx ys (i .0))))) ∷ ‵ (fbor κ (Held E.the-row (length (cur tx ys (i .0))) b o γ)) ∷ ‵ (flft κ q) ∷ ‵ Own ∷ ‵ (flft κ₀ q₀) ∷ []
 
     abbrev Turned : Upto → Out → SProp 𝓤
@@ -269,10 +259,10 @@ module _ {M : Type 1} (𝓤 : URA M) (H : Heap 𝓤) (A : Atoms 𝓤) (W : Given
         move ! (3 ∷ 4 ∷ 5 ∷ 6 ∷ 7 ∷ 8 ∷ 9 ∷ 10 ∷ 11 ∷ 12 ∷ 13 ∷ 14 ∷ 15 ∷ 16 ∷ 17 ∷ 18 ∷ 19 ∷ 20 ∷ 21 ∷ 22 ∷ 23 ∷ 24 ∷ 25 ∷ 26 ∷ []) $
         again ! Nearer At i (next less) (add-one-dec (length ys) n inside))))))))
         (λ over. jumps ! $ exec ! C Λ En mir′.t-6 (atRet En Post) $
-        assigns ! (agg ! (and-then ! (lit ! tt) (no-more !))) (from ! (stop !)) (init ! 22 refl (EL.lawful Answer.the-type Answer′.the-laws 𝓤 H A W tt .typed verdict.Accepted _ accepted-is .0)) $
+        assigns ! (of-opd ! (lit ! tt)) (from ! (stop !)) (init ! 22 refl (tt, record { fits = lit< tt })) $
         returns ! (look ! 22 refl) $ forget ! 6 refl $ forget ! 8 refl $ forget ! 16 refl $ forget ! 18 refl $ forget ! 20 refl $ forget ! 22 refl $
         move ! (22 ∷ 23 ∷ []) $ free1 ! $ move ! (20 ∷ 21 ∷ []) $ free1 ! $ move ! (18 ∷ 19 ∷ []) $ free1 ! $ move ! (16 ∷ 17 ∷ []) $ free1 ! $ move ! (14 ∷ 15 ∷ []) $ free1 ! $ move ! (12 ∷ 13 ∷ []) $ free1 ! $ move ! (10 ∷ 11 ∷ []) $ free1 ! $ move ! (8 ∷ 9 ∷ []) $ free1 ! $ move ! (6 ∷ 7 ∷ []) $ free1 ! $ move ! (4 ∷ 5 ∷ []) $ free1 ! $ move ! (2 ∷ 3 ∷ []) $ free1 ! $ free1 ! $ free0 ! $
-        by ! (exits verdict.Accepted (cur tx ys (i .0)) (cur-length tx ys (i .0) (i .1)) accepted-is (all-judged _ few (cur-done tx ys (i .0) (i .1) (nltb→le (i .0) (length ys) over)))))
+        by ! (exits 0 (cur tx ys (i .0)) (cur-length tx ys (i .0) (i .1)) (lit< tt) (all-judged _ few (cur-done tx ys (i .0) (i .1) (nltb→le (i .0) (length ys) over)))))
       where
         fits : (j : Upto) → j .0 < 2 ^ 64
         fits j = lt-of-le-of-lt (j .1) (gn .0)
@@ -293,10 +283,10 @@ module _ {M : Type 1} (𝓤 : URA M) (H : Heap 𝓤) (A : Atoms 𝓤) (W : Given
       keep ! (8 ∷ 9 ∷ 10 ∷ 11 ∷ 12 ∷ 13 ∷ 14 ∷ 15 ∷ 16 ∷ 17 ∷ 18 ∷ 19 ∷ 20 ∷ 21 ∷ 22 ∷ 23 ∷ 24 ∷ 25 ∷ 26 ∷ 27 ∷ 28 ∷ 29 ∷ 30 ∷ 31 ∷ 0 ∷ 1 ∷ 5 ∷ 4 ∷ 7 ∷ []) $
       first ! $ branches ! (load ! (from ! (stop !)) (look ! 10 refl))
       (λ over.
-      assigns ! (agg ! (and-then ! (lit ! tt) (and-then ! (lit ! tt) (no-more !)))) (from ! (stop !)) (init ! 22 refl (EL.lawful Answer.the-type Answer′.the-laws 𝓤 H A W tt .typed (verdict.Refused 19) _ long-is .0)) $
+      assigns ! (of-opd ! (lit ! tt)) (from ! (stop !)) (init ! 22 refl (tt, record { fits = lit< tt })) $
       returns-within ! Post refl (look ! 22 refl) $ forget ! 10 refl $ forget ! 12 refl $ forget ! 18 refl $ forget ! 20 refl $ forget ! 22 refl $
       move ! (22 ∷ 23 ∷ []) $ free1 ! $ move ! (20 ∷ 21 ∷ []) $ free1 ! $ move ! (18 ∷ 19 ∷ []) $ free1 ! $ move ! (16 ∷ 17 ∷ []) $ free1 ! $ move ! (14 ∷ 15 ∷ []) $ free1 ! $ move ! (12 ∷ 13 ∷ []) $ free1 ! $ move ! (10 ∷ 11 ∷ []) $ free1 ! $ move ! (8 ∷ 9 ∷ []) $ free1 ! $ move ! (6 ∷ 7 ∷ []) $ free1 ! $ move ! (4 ∷ 5 ∷ []) $ free1 ! $ move ! (2 ∷ 3 ∷ []) $ free1 ! $ free1 ! $ free0 ! $
-      by ! (exits (verdict.Refused 19) ys refl long-is (over-32 (ltb→lt 32 (length ys) over))))
+      by ! (exits 19 ys refl (lit< tt) (over-32 (ltb→lt 32 (length ys) over))))
       (λ few. skips ! $ exec ! (𝓣 .C) (𝓣 .Λ) (En 𝓣 (nltb→le 32 (length ys) few) known l₀ l₁ l₂ l₃ l₄ l₅ l₆ l₇ l₈ l₉ l₁₀ l₁₁) mir′.t-4 (atRet (En 𝓣 (nltb→le 32 (length ys) few) known l₀ l₁ l₂ l₃ l₄ l₅ l₆ l₇ l₈ l₉ l₁₀ l₁₁) Post) $
       assigns ! (of-opd ! (lit ! tt)) (from ! (stop !)) (init ! 16 refl (tt, record { fits = lit< tt })) $ forget ! 10 refl $ forget ! 12 refl $
       first ! $ blocks ! $ loops ! 𝓣 Nearer Nearer-wf (At 𝓣 (nltb→le 32 (length ys) few) known l₀ l₁ l₂ l₃ l₄ l₅ l₆ l₇ l₈ l₉ l₁₀ l₁₁) (turns 𝓣 (nltb→le 32 (length ys) few) known l₀ l₁ l₂ l₃ l₄ l₅ l₆ l₇ l₈ l₉ l₁₀ l₁₁) (0, zero-le))))))))))))))
@@ -313,10 +303,10 @@ all-meets 𝓤 H A W mem run 𝓣 known =
     walk-meets 𝓤 H A all′.ended stayed W (goes-none-slice 𝓤 H A W 2 (0 ∷ []) tt (plain (λ _. u8)) yes, (goes-slice 𝓤 H A W 2 1 tt (plain (λ _. E.the-row)), tt))
     (all′.clauses 𝓤 H A mem run) (WpFn 𝓤 H (𝓣 .C) (𝓣 .Λ) code.function) (WpFn-mono 𝓤 H (W .laws) 𝓣 code.function) (all-walks 𝓤 H A W mem run 𝓣 known)
 
-pub judge-batch-spec : {M : Type 1} → stated.statement M
+pub pennywax-judge-batch-spec : {M : Type 1} → stated.statement M
 unfolding code.routine tablesOf
-judge-batch-spec 𝓤 H 𝓜 𝓖 𝓡 =
+pennywax-judge-batch-spec 𝓤 H 𝓜 𝓖 𝓡 =
     entered 𝓤 H (tripleOf 𝓤 H (𝓖 .A) all′.signature (all′.spec 𝓤 H (𝓖 .A) (𝓜 .mem) (𝓡 .run)))
-    (tables 𝓤 H 𝓜 𝓡 code.env .C) (tables 𝓤 H 𝓜 𝓡 code.env .Λ) #batch·judge-batch code.function (code.unfolded 𝓤 H 𝓜 𝓡)
+    (tables 𝓤 H 𝓜 𝓡 code.env .C) (tables 𝓤 H 𝓜 𝓡 code.env .Λ) #batch·pennywax-judge-batch code.function (code.unfolded 𝓤 H 𝓜 𝓡)
     (all-meets 𝓤 H (𝓖 .A) (givenOf 𝓤 H 𝓜 𝓖) (𝓜 .mem) (𝓡 .run) (tablesOf 𝓤 H 𝓜 (tables 𝓤 H 𝓜 𝓡 code.env))
     (cited 𝓤 H (Callee 𝓤 H (𝓖 .A) (𝓜 .mem) (𝓡 .run)) 𝓜 𝓡 code.env #batch·judge judge-def.routine code.calls-batch·judge (judge-thm.met 𝓤 H 𝓜 𝓖 𝓡)))
