@@ -50,6 +50,10 @@ class Ours:
         number = self.library.pennywax_read(ctypes.c_uint8(code), *slice_of(s), ctypes.byref(self.first), ctypes.byref(self.second))
         return number & 255, self.first.value, self.second.value
 
+    def locate(self, code, s):
+        number = self.library.pennywax_locate(ctypes.c_uint8(code), *slice_of(s), ctypes.byref(self.first))
+        return number & 255, self.first.value
+
     def read_bytes(self, code, s, room):
         out = ctypes.create_string_buffer(b"\xaa" * room, room)
         number = self.library.pennywax_read_bytes(ctypes.c_uint8(code), *slice_of(s), out, ctypes.c_size_t(room),

@@ -33,8 +33,3 @@ batchVerdict entries = firstOf (λ n. verdict.Refused n) (ltb 32 (length entries
 abbrev pub entriesAfter : Verdict → List ℕ → List Entry → List Entry
 entriesAfter verdict.Accepted buffer entries = map (judged buffer) entries
 entriesAfter (verdict.Refused n) buffer entries = entries
-
--- the batch's answer as a number: 0 for accepted, or the refusal's
-abbrev pub numberOfVerdict : Verdict → ℕ
-numberOfVerdict verdict.Accepted = 0
-numberOfVerdict (verdict.Refused n) = n

@@ -9,7 +9,8 @@ use borrow.Author.Tests.{le-ltb}
 use lib.ListN.{length, take, drop, getD, replicate, length-map}
 use lib.Seq.{length-take-le, take-at, drop-at}
 use Rattle.laws.specs.Text.{bytes}
-use Rattle.answers.specs.Batch.{entryVerdict, judged, batchVerdict, numberOfVerdict, entriesAfter}
+use Rattle.answers.specs.Numbers.{numberOfVerdict}
+use Rattle.answers.specs.Batch.{entryVerdict, judged, batchVerdict, entriesAfter}
 use Rattle.answers.specs.declared.Verdict.{Verdict}
 use Rattle.answers.specs.declared.Verdict.the-variants as verdict
 use Rattle.answers.specs.declared.Entry.{Entry}

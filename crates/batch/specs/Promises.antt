@@ -3,7 +3,8 @@ use mathlib.Core.Path.{_≡_}
 use mathlib.Core.List.{List}
 use Prim.Native.Nat.{ℕ}
 use Rattle.laws.proofs.Bools.{same}
-use Rattle.answers.specs.Batch.{judged, batchVerdict, numberOfVerdict, entriesAfter}
+use Rattle.answers.specs.Numbers.{numberOfVerdict}
+use Rattle.answers.specs.Batch.{judged, batchVerdict, entriesAfter}
 use Rattle.answers.specs.declared.Entry.{Entry}
 use Rattle.batch.specs.ByValue.{judgedAll}
 use Rattle.batch.specs.declared.Batch.{Batch}

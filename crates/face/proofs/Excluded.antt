@@ -11,9 +11,11 @@ use Rattle.answers.specs.Reading.{addressVerdict, readAddressVerdict, readVerdi
 use Rattle.answers.specs.declared.Written.{Written}
 use Rattle.answers.specs.declared.Written.the-variants as written
 use Rattle.answers.proofs.Computing.{computing}
+use Rattle.correction.proofs.Examples.{last-changed, fourth-changed}
 use Rattle.answers.proofs.Cases.{taproot, room-32, abcd-bech32, write-90, write-version-17}
-use Rattle.face.specs.Codes.{codedRead, codedBytes, codedWrite, codedString, numberOfReading, symbolsOfReading, numberOfWritten, countOfWritten, numberOfAddress, versionOfAddress}
-use Rattle.face.specs.Promises.{AddressChecked, AddressRead, StringRead, BytesRead, SymbolsWritten, BytesWritten, AddressWritten}
+use Rattle.answers.specs.Numbers.{numberOfReading, symbolsOfReading, numberOfWritten, countOfWritten, numberOfAddress, versionOfAddress, numberOfLocated, placeOfLocated}
+use Rattle.face.specs.Codes.{codedRead, codedLocate, codedBytes, codedWrite, codedString}
+use Rattle.face.specs.Promises.{AddressChecked, AddressRead, StringRead, PlaceLocated, BytesRead, SymbolsWritten, BytesWritten, AddressWritten}
 
 abbrev address : List ℕ
 address = bytes "bc1pdp43hj65vxw49rts6kcw35u6r6tgzguyr03vvveeewjqpn05efzq7un9w0"
@@ -53,6 +55,20 @@ read-not-refused k m n p = let e : suc k ≡ 0 = p .number ∙ ap numberOfReadin
 pub read-knows-codes : (m n : ℕ) → StringRead 3 string 0 m n → ⊥
 unfolding codedRead
 read-knows-codes m n p = let e : _≡_ {A = ℕ} 0 28 = p .number in omega arith
+
+-- ---- pennywax_locate
+
+pub locate-not-refused : (k p : ℕ) → PlaceLocated 1 (bytes "a12uel5q") (suc k) p → ⊥
+unfolding codedLocate
+locate-not-refused k p x = let e : suc k ≡ 0 = x .number ∙ ap numberOfLocated last-changed in omega arith
+
+pub locate-gives-the-place : (r : ℕ) → PlaceLocated 1 (bytes "a12uql5l") r 0 → ⊥
+unfolding codedLocate
+locate-gives-the-place r x = let e : _≡_ {A = ℕ} 0 3 = x .place-given ∙ ap placeOfLocated fourth-changed in omega arith
+
+pub locate-knows-codes : (p : ℕ) → PlaceLocated 3 (bytes "a12uel5q") 0 p → ⊥
+unfolding codedLocate
+locate-knows-codes p x = let e : _≡_ {A = ℕ} 0 28 = x .number in omega arith
 
 -- ---- pennywax_read_bytes
 

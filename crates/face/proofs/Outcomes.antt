@@ -12,13 +12,16 @@ use Rattle.answers.specs.declared.Written.{Written}
 use Rattle.answers.specs.declared.Written.the-variants as written
 use Rattle.answers.specs.declared.Address.{Address}
 use Rattle.answers.specs.declared.Address.the-variants as address
+use Rattle.answers.specs.declared.Located.{Located}
+use Rattle.answers.specs.declared.Located.the-variants as located
 use Rattle.checksum.specs.declared.Checksum.{Checksum}
 use Rattle.checksum.specs.declared.Checksum.the-variants.{Bech32, Bech32m}
 use Rattle.decode.specs.Promises.{AddressRead as WasAddressRead, BytesRead as WasBytesRead}
 use Rattle.encode.specs.Promises.{SymbolsWritten as WasSymbolsWritten, BytesWritten as WasBytesWritten, AddressWritten as WasAddressWritten}
 use Rattle.answers.specs.Writing.{writeBytesVerdict}
-use Rattle.face.specs.Codes.{codedRead, codedBytes, CodedBytes, codedWrite, codedString, CodedWritten, numberOfReading, prefixOfReading, symbolsOfReading, numberOfWritten, countOfWritten, numberOfAddress, versionOfAddress, lengthOfAddress}
-use Rattle.face.specs.Promises.{AddressChecked, AddressRead, StringRead, BytesRead, SymbolsWritten, AddressWritten}
+use Rattle.answers.specs.Numbers.{numberOfReading, prefixOfReading, symbolsOfReading, numberOfWritten, countOfWritten, numberOfAddress, versionOfAddress, lengthOfAddress, numberOfLocated, placeOfLocated}
+use Rattle.face.specs.Codes.{codedRead, codedLocate, codedBytes, CodedBytes, codedWrite, codedString, CodedWritten}
+use Rattle.face.specs.Promises.{AddressChecked, AddressRead, StringRead, PlaceLocated, BytesRead, SymbolsWritten, AddressWritten}
 
 module _ (s : List ℕ) (a : Address) (kept : a ≡ addressVerdict s) where
   pub checked-accepted : (v n : ℕ) → a ≡ address.Accepted v n → AddressChecked s 0 v n
@@ -52,6 +55,17 @@ module _ (code : ℕ) (s : List ℕ) (a : Reading) (kept : a ≡ codedRead code 
   string-refused k e =
       let w : reading.Refused k ≡ codedRead code s = sym e ∙ kept in
       record { number = ap numberOfReading w; prefix-given = ap prefixOfReading w; symbols-given = ap symbolsOfReading w }
+
+module _ (code : ℕ) (s : List ℕ) (a : Located) (kept : a ≡ codedLocate code s) where
+  pub located-at : (p : ℕ) → a ≡ located.At p → PlaceLocated code s 0 p
+  located-at p e =
+      let w : located.At p ≡ codedLocate code s = sym e ∙ kept in
+      record { number = ap numberOfLocated w; place-given = ap placeOfLocated w }
+
+  pub located-refused : (k : ℕ) → a ≡ located.Refused k → PlaceLocated code s k 0
+  located-refused k e =
+      let w : located.Refused k ≡ codedLocate code s = sym e ∙ kept in
+      record { number = ap numberOfLocated w; place-given = ap placeOfLocated w }
 
 module _ (code : ℕ) (s before : List ℕ) (a : Written) (after : List ℕ) (kept : CodedBytes code s before a after) where
   pub bytes-accepted : (n : ℕ) → a ≡ written.Accepted n → BytesRead code s before 0 after n

@@ -13,8 +13,9 @@ use Rattle.answers.specs.declared.Reading.{Reading}
 use Rattle.answers.specs.declared.Reading.the-variants as reading
 use Rattle.answers.specs.declared.Written.{Written}
 use Rattle.answers.specs.declared.Written.the-variants as written
-use Rattle.answers.specs.declared.Address.{Address}
-use Rattle.answers.specs.declared.Address.the-variants as address
+use Rattle.answers.specs.Locator.{locateVerdict}
+use Rattle.answers.specs.declared.Located.{Located}
+use Rattle.answers.specs.declared.Located.the-variants as located
 
 -- what is answered for a code, given what is answered for a checksum's constant and what is answered for an unknown code
 abbrev pub byCode : {A : Type 0} → ℕ → (ℕ → A) → A → A
@@ -22,6 +23,9 @@ byCode code answer unknown = pick (eqb code 1) (answer bech32) (pick (eqb code 2
 
 unfoldable pub codedRead : ℕ → List ℕ → Reading
 codedRead code s = byCode code (λ constant. readVerdict constant s) (reading.Refused 28)
+
+unfoldable pub codedLocate : ℕ → List ℕ → Located
+codedLocate code s = byCode code (λ constant. locateVerdict constant s) (located.Refused 28)
 
 unfoldable pub codedBytes : ℕ → List ℕ → ℕ → Written
 codedBytes code s room = byCode code (λ constant. readBytesVerdict constant s room) (written.Refused 28)
@@ -40,37 +44,3 @@ codedString code prefix symbols = byCode code (λ constant. writtenString consta
 pub record CodedWritten (code : ℕ) (prefix symbols before : List ℕ) (r : Written) (after : List ℕ) : Type 0 where
   pub answer : r ≡ codedWrite code prefix symbols (length before)
   pub buffer : after ≡ bufferAfter (codedWrite code prefix symbols (length before)) (codedString code prefix symbols) before
-
--- ---- an answer as numbers: 0 for accepted, or the refusal's; and the other results, 0 on a refusal
-
-abbrev pub numberOfReading : Reading → ℕ
-numberOfReading (reading.Accepted m n) = 0
-numberOfReading (reading.Refused k) = k
-
-abbrev pub prefixOfReading : Reading → ℕ
-prefixOfReading (reading.Accepted m n) = m
-prefixOfReading (reading.Refused k) = 0
-
-abbrev pub symbolsOfReading : Reading → ℕ
-symbolsOfReading (reading.Accepted m n) = n
-symbolsOfReading (reading.Refused k) = 0
-
-abbrev pub numberOfWritten : Written → ℕ
-numberOfWritten (written.Accepted n) = 0
-numberOfWritten (written.Refused k) = k
-
-abbrev pub countOfWritten : Written → ℕ
-countOfWritten (written.Accepted n) = n
-countOfWritten (written.Refused k) = 0
-
-abbrev pub numberOfAddress : Address → ℕ
-numberOfAddress (address.Accepted v n) = 0
-numberOfAddress (address.Refused k) = k
-
-abbrev pub versionOfAddress : Address → ℕ
-versionOfAddress (address.Accepted v n) = v
-versionOfAddress (address.Refused k) = 0
-
-abbrev pub lengthOfAddress : Address → ℕ
-lengthOfAddress (address.Accepted v n) = n
-lengthOfAddress (address.Refused k) = 0

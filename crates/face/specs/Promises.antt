@@ -7,7 +7,8 @@ use Rattle.laws.proofs.Bools.{same}
 use Rattle.paper.specs.Bits.{toBytes, toSymbols}
 use Rattle.answers.specs.Reading.{payloadSymbols, programOf, addressVerdict, readAddressVerdict, programAfter, bufferAfter}
 use Rattle.answers.specs.Writing.{writtenAddress, writeAddressVerdict}
-use Rattle.face.specs.Codes.{codedRead, codedBytes, codedWrite, codedString, numberOfReading, prefixOfReading, symbolsOfReading, numberOfWritten, countOfWritten, numberOfAddress, versionOfAddress, lengthOfAddress}
+use Rattle.answers.specs.Numbers.{numberOfReading, prefixOfReading, symbolsOfReading, numberOfWritten, countOfWritten, numberOfAddress, versionOfAddress, lengthOfAddress, numberOfLocated, placeOfLocated}
+use Rattle.face.specs.Codes.{codedRead, codedLocate, codedBytes, codedWrite, codedString}
 
 -- face::pennywax_check_address
 pub record AddressChecked (s : List ℕ) (r version n : ℕ) : Type 0 where
@@ -44,6 +45,14 @@ pub record StringRead (code : ℕ) (s : List ℕ) (r prefix symbols : ℕ) : Typ
 pub string-read-once : (code : ℕ) (s : List ℕ) (r r′ m m′ n n′ : ℕ) → StringRead code s r m n → StringRead code s r′ m′ n′ → (r ≡ r′) × (m ≡ m′) × (n ≡ n′)
 string-read-once code s r r′ m m′ n n′ p q =
     (same (p .number) (q .number), same (p .prefix-given) (q .prefix-given), same (p .symbols-given) (q .symbols-given))
+
+-- face::pennywax_locate
+pub record PlaceLocated (code : ℕ) (s : List ℕ) (r place : ℕ) : Type 0 where
+  pub number : r ≡ numberOfLocated (codedLocate code s)
+  pub place-given : place ≡ placeOfLocated (codedLocate code s)
+
+pub place-located-once : (code : ℕ) (s : List ℕ) (r r′ p p′ : ℕ) → PlaceLocated code s r p → PlaceLocated code s r′ p′ → (r ≡ r′) × (p ≡ p′)
+place-located-once code s r r′ p p′ x y = (same (x .number) (y .number), same (x .place-given) (y .place-given))
 
 -- face::pennywax_read_bytes
 pub record BytesRead (code : ℕ) (s before : List ℕ) (r : ℕ) (after : List ℕ) (written : ℕ) : Type 0 where

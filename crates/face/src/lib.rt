@@ -3,13 +3,14 @@
 // document 01's number, 0 for accepted; a refusal sets the other results to 0.
 use answers::Address;
 use answers::CHECKSUM_UNKNOWN;
+use answers::Located;
 use answers::Reading;
 use answers::Written;
 use checksum::Checksum;
 ghost use mathlib.Core.Path.{_≡_};
 ghost use Rattle.paper.specs.Bits.{toSymbols};
-ghost use Rattle.face.specs.Codes.{codedRead, CodedBytes, CodedWritten};
-ghost use Rattle.face.specs.Promises.{AddressChecked, AddressRead, StringRead, BytesRead, SymbolsWritten, BytesWritten, AddressWritten};
+ghost use Rattle.face.specs.Codes.{codedRead, codedLocate, CodedBytes, CodedWritten};
+ghost use Rattle.face.specs.Promises.{AddressChecked, AddressRead, StringRead, PlaceLocated, BytesRead, SymbolsWritten, BytesWritten, AddressWritten};
 
 const ACCEPTED: u8 = 0;
 
@@ -72,6 +73,23 @@ pub extern "C" fn pennywax_read(code: u8, s: &[u8], prefix: &mut usize, symbols:
         Reading::Refused(number) => {
             *prefix = 0;
             *symbols = 0;
+            number
+        }
+    }
+}
+
+// The place of one changed symbol, counted from the end; 0 is answered where one is named.
+#[no_mangle]
+pub extern "C" fn pennywax_locate(code: u8, s: &[u8], place: &mut usize) -> u8
+    ensures { λ r. ⌜ PlaceLocated code (now (s .entry)) r (now (place .exit)) ⌝ }
+{
+    match locate_coded(code, s) {
+        Located::At(p) => {
+            *place = p;
+            ACCEPTED
+        }
+        Located::Refused(number) => {
+            *place = 0;
             number
         }
     }
@@ -171,6 +189,18 @@ fn read_coded(code: u8, s: &[u8]) -> Reading
         return decode::read(Checksum::Bech32m, s);
     }
     Reading::Refused(CHECKSUM_UNKNOWN)
+}
+
+fn locate_coded(code: u8, s: &[u8]) -> Located
+    ensures { λ r. ⌜ r ≡ codedLocate code (now (s .entry)) ⌝ }
+{
+    if code == BECH32 {
+        return correction::locate(Checksum::Bech32, s);
+    }
+    if code == BECH32M {
+        return correction::locate(Checksum::Bech32m, s);
+    }
+    Located::Refused(CHECKSUM_UNKNOWN)
 }
 
 fn read_bytes_coded(code: u8, s: &[u8], out: &mut [u8]) -> Written

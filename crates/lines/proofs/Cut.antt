@@ -10,7 +10,8 @@ use lib.Seq.{take-all, length-take-le}
 use borrow.Author.Tests.{lt-ltb, ltb-true, ltb-false}
 use Rattle.laws.specs.Pick.{pick}
 use Rattle.answers.specs.Reading.{addressVerdict, longerThan}
-use Rattle.answers.specs.Lines.{numberOf, answerTo}
+use Rattle.answers.specs.Numbers.{numberOfAddress}
+use Rattle.answers.specs.Lines.{answerTo}
 use Rattle.answers.specs.declared.Address.the-variants.{Refused}
 
 pub long-10 : (l : List ℕ) → 90 < length l → addressVerdict l ≡ Refused 10
@@ -38,4 +39,4 @@ digits-length false x y z = omega arith
 pub answer-length : (l : List ℕ) → length (answerTo l) ≤ 3
 unfolding answerTo
 answer-length l =
-    digits-length (ltb (numberOf (addressVerdict l)) 10) (48 + numberOf (addressVerdict l)) (48 + numberOf (addressVerdict l) / 10) (48 + numberOf (addressVerdict l) % 10)
+    digits-length (ltb (numberOfAddress (addressVerdict l)) 10) (48 + numberOfAddress (addressVerdict l)) (48 + numberOfAddress (addressVerdict l) / 10) (48 + numberOfAddress (addressVerdict l) % 10)

@@ -9,7 +9,8 @@ use lib.ListN.{length, take, drop, set, getD, drop-of-length-le}
 use lib.Seq.{drop-cons, sets}
 use borrow.Author.Tests.{lt-ltb, le-ltb, eq-eqb, ne-eqb}
 use Rattle.answers.specs.Reading.{addressVerdict}
-use Rattle.answers.specs.Lines.{numberOf, decimal, answerTo}
+use Rattle.answers.specs.Numbers.{numberOfAddress}
+use Rattle.answers.specs.Lines.{decimal, answerTo}
 use Rattle.answers.specs.declared.Address.{Address}
 use Rattle.lines.specs.Feeding.{Standing, standing, answered, kept, lineWith, countWith, full, passed, fedFrom, keptCount, start, fed, finished}
 use Rattle.lines.specs.Promises.{told, Took, WasFed, WasFinished}
@@ -29,12 +30,12 @@ two-digits n at out h =
     let e : at + 2 ≡ suc (suc at) = omega arith in
     rw (le-ltb n 10 h, e, add-one at) (refl, refl, omega arith)
 
-pub answer-put : (l out after : List ℕ) (at n r : ℕ) (a : Address) → a ≡ addressVerdict l → n ≡ numberOf a
+pub answer-put : (l out after : List ℕ) (at n r : ℕ) (a : Address) → a ≡ addressVerdict l → n ≡ numberOfAddress a
     → (r ≡ at + length (decimal n ++ 10 ∷ [])) × (after ≡ sets out at (decimal n ++ 10 ∷ [])) × (r ≤ at + 3)
     → (r ≡ at + length (answerTo l)) × (after ≡ sets out at (answerTo l)) × (r ≤ at + 3)
 unfolding answerTo
 answer-put l out after at n r a p q h =
-    subst (λ (m : ℕ). (r ≡ at + length (decimal m ++ 10 ∷ [])) × (after ≡ sets out at (decimal m ++ 10 ∷ [])) × (r ≤ at + 3)) (q ∙ ap numberOf p) h
+    subst (λ (m : ℕ). (r ≡ at + length (decimal m ++ 10 ∷ [])) × (after ≡ sets out at (decimal m ++ 10 ∷ [])) × (r ≤ at + 3)) (q ∙ ap numberOfAddress p) h
 
 -- ---- a byte that is kept
 

@@ -7,7 +7,8 @@ ghost use Prim.Native.Nat.{_+_, _≤_};
 ghost use lib.ListN.{length, take};
 ghost use lib.Seq.{sets};
 ghost use mathlib.Core.List.{[], _∷_, _++_};
-ghost use Rattle.answers.specs.Lines.{numberOf, decimal, answerTo};
+ghost use Rattle.answers.specs.Numbers.{numberOfAddress};
+ghost use Rattle.answers.specs.Lines.{decimal, answerTo};
 ghost use Rattle.lines.specs.Feeding.{keptCount, countWith, lineWith, standing};
 ghost use Rattle.lines.specs.Promises.{WasFed, WasFinished, Took};
 
@@ -142,7 +143,7 @@ fn answer(line: &[u8], len: usize, out: &mut [u8], at: usize) -> usize
 }
 
 fn number_of(address: Address) -> u8
-    ensures { λ r. ⌜ r ≡ numberOf address ⌝ }
+    ensures { λ r. ⌜ r ≡ numberOfAddress address ⌝ }
 {
     match address {
         Address::Accepted(_, _) => 0,
