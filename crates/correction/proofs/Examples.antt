@@ -61,7 +61,7 @@ pub not-in-the-field : locateVerdict bech32 (bytes "a10f58vz") ≡ located.Refus
 not-in-the-field =
     seen ∙ place-missing 1 190243612
     (λ p h x. let small : 988 < 32 =
-        small-change 190243612 1 (sym (values .0)) (sym (values .1)) (sym (values .2)) p x (sym one-ratio) 988 (sym no-symbol) in omega arith)
+    small-change 190243612 1 (sym (values .0)) (sym (values .1)) (sym (values .2)) p x (sym one-ratio) 988 (sym no-symbol) in omega arith)
 
 -- no answer is right for two places, so no constant one is
 pub not-constant : (r : Located) → WasLocated Bech32 (bytes "a12uel5q") r → WasLocated Bech32 (bytes "a12uql5l") r → ⊥

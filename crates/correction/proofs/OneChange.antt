@@ -132,7 +132,7 @@ root-value : (x z : ℕ) → valueAt (x ∷ 1 ∷ []) z ≡ z % 1024 ⊕ x % 102
 root-value x z =
     value-cons x (1 ∷ []) z
     ∙ ap (λ (a : ℕ). sum (product z a) x)
-      (value-cons 1 [] z ∙ ap (λ (a : ℕ). sum (product z a) 1) (value-none z) ∙ ap (λ (a : ℕ). sum a 1) (product-zero z) ∙ zero-sum 1)
+    (value-cons 1 [] z ∙ ap (λ (a : ℕ). sum (product z a) 1) (value-none z) ∙ ap (λ (a : ℕ). sum a 1) (product-zero z) ∙ zero-sum 1)
     ∙ sum-is (product z 1) x ∙ ap (λ (a : ℕ). a ⊕ x % 1024) (product-mod z 1 ∙ product-one z)
 
 pub root-is : (x z : ℕ) → x < 1024 → z < 1024 → isRoot (x ∷ 1 ∷ []) z ≡ true → z ≡ x
