@@ -2,31 +2,27 @@
 -- that does not apply is one condition of validity.
 use mathlib.Core.Path.{_≡_, refl, sym, ap, ap₂, _∙_, subst}
 use mathlib.Core.Logic.{_⊎_, inl, inr, _↔_}
-use mathlib.Core.Bool.{Bool, true, false, not, _&&_, _||_}
+use mathlib.Core.Bool.{Bool, true, false, not, _||_}
 use mathlib.Core.List.{List, [], _∷_, _++_, map, map-append}
-use Prim.Native.Nat.{ℕ, zero, suc, _+_, _-_, _≤_, _<_}
-use native.Mathlib.Nat.{suc-inj}
+use Prim.Native.Nat.{ℕ, suc, _+_, _-_, _≤_, _<_}
 use native.Mathlib.Omega.{arith}
 use native.Mathlib.Decide.{ℕ-discrete}
 use lib.Dec.{eqb, leb, ltb}
-use lib.ListN.{length, take, drop, getD, length-append, length-map, length-take, length-drop, take-append-drop}
+use lib.ListN.{length, take, drop, getD, length-append, length-map, length-drop, take-append-drop}
 use lib.Seq.{take-at, length-take-le}
-use borrow.Author.Tests.{ltb-true, ltb-false, leb-true, eqb-true, eqb-false, not-true, not-false, le-leb, le-ltb, lt-ltb, eq-eqb, ne-eqb}
-use Rattle.laws.specs.Pick.{pick}
-use Rattle.laws.specs.Lists.{any, all, Every}
-use Rattle.laws.proofs.Bools.{and-first, and-second, or-first, or-second, and-false, both-ways}
+use borrow.Author.Tests.{ltb-true, ltb-false, leb-true, eqb-true, eqb-false, not-false, le-leb, le-ltb, lt-ltb, eq-eqb, ne-eqb}
+use Rattle.laws.specs.Lists.{any, all}
+use Rattle.laws.proofs.Bools.{and-first, and-second, or-first, or-second, both-ways}
 use Rattle.laws.proofs.Lists.{all-every, every-all, any-none, none-any, map-take}
-use Rattle.paper.specs.Charset.{isSeparator, isUpper, isLower, isPrintable, isSymbol, symbol}
+use Rattle.paper.specs.Charset.{isSeparator, isPrintable, isSymbol, symbol}
 use Rattle.paper.specs.Checksum.{residue, constantOf}
 use Rattle.paper.specs.Bits.{toBytes, padding}
 use Rattle.paper.specs.Valid.{ValidString, ValidAddress}
-use Rattle.answers.specs.Order.{Rule, _gives_, firstOf, NoneApplies}
+use Rattle.answers.specs.Order.{_gives_, NoneApplies}
 use Rattle.answers.specs.Rules.{versionUnknown, lengthWrong, lengthWrongFor0, paddingLong, paddingNotZero}
-use Rattle.answers.specs.Reading.{dataPart, prefixPart, payload, payloadSymbols, versionOf, programSymbols, programOf, characterOutside, mixedCase, separatorMissing, prefixEmpty, prefixLong, prefixByteOutside, longerThan, dataShort, checksumWrong, dataMissing, payloadMissing, roomSmall, stringRules, readingRules, addressRules, readVerdict, readBytesVerdict, addressVerdict, readAddressVerdict}
+use Rattle.answers.specs.Reading.{dataPart, prefixPart, payload, payloadSymbols, versionOf, programSymbols, programOf, characterOutside, mixedCase, separatorMissing, prefixEmpty, prefixLong, prefixByteOutside, longerThan, dataShort, checksumWrong, dataMissing, payloadMissing, stringRules, readingRules, addressRules, readVerdict, addressVerdict}
 use Rattle.answers.specs.Accepted.{ReadAs, AddressAs}
-use Rattle.answers.specs.declared.Reading.{Reading}
 use Rattle.answers.specs.declared.Reading.the-variants as reading
-use Rattle.answers.specs.declared.Address.{Address}
 use Rattle.answers.specs.declared.Address.the-variants as address
 use Rattle.answers.proofs.Orders.{accepts, accepted-only}
 use Rattle.answers.proofs.Split.{separator-seen, dataPart-of, prefixPart-of, whole-string, no-separator-after}

@@ -8,7 +8,7 @@ use native.Mathlib.Omega.{arith}
 use lib.Dec.{T}
 use lib.ListN.{length}
 use Rattle.paper.specs.Bits.{toBytes}
-use Rattle.answers.specs.Order.{firstOf, FirstApplies}
+use Rattle.answers.specs.Order.{FirstApplies}
 use Rattle.answers.specs.Rules.{prefixRules, prefixVerdict}
 use Rattle.answers.specs.Reading.{prefixPart, payload, payloadSymbols, versionOf, programOf, readingRules, addressRules, readingBytesRules, readingAddressRules, readVerdict, readBytesVerdict, addressVerdict, readAddressVerdict}
 use Rattle.answers.specs.Writing.{writtenString, writtenAddress, writeRules, writeAddressRules, writeVerdict, writeAddressVerdict}
@@ -16,7 +16,7 @@ use Rattle.answers.specs.declared.Verdict.the-variants as verdict
 use Rattle.answers.specs.declared.Written.the-variants as written
 use Rattle.answers.specs.declared.Reading.the-variants as reading
 use Rattle.answers.specs.declared.Address.the-variants as address
-use Rattle.answers.proofs.Orders.{givenAt, givenTwice, exactly, exactly-twice}
+use Rattle.answers.proofs.Orders.{givenAt, exactly, exactly-twice}
 use Rattle.answers.proofs.Exact.{address-apart, address-injective, reading-injective, reading-apart}
 use Rattle.answers.proofs.Rooms.{written-apart, written-injective}
 

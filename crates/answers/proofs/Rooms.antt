@@ -1,14 +1,14 @@
 -- Reading into a lent buffer: accepted exactly if reading accepts and the room holds what is written. The rule of the room is the last.
-use mathlib.Core.Path.{_≡_, refl, sym, ap, _∙_}
+use mathlib.Core.Path.{_≡_, ap, _∙_}
 use mathlib.Core.Logic.{_↔_}
-use mathlib.Core.Bool.{Bool, true, false}
+use mathlib.Core.Bool.{Bool, false}
 use mathlib.Core.List.{List, [], _∷_, _++_}
 use Prim.Native.Nat.{ℕ, _≤_}
 use native.Mathlib.Omega.{arith}
 use lib.ListN.{length}
 use borrow.Author.Tests.{ltb-false, le-ltb}
 use Rattle.paper.specs.Bits.{toBytes}
-use Rattle.answers.specs.Order.{Rule, _gives_, firstOf, NoneApplies}
+use Rattle.answers.specs.Order.{Rule, _gives_, NoneApplies}
 use Rattle.answers.specs.Reading.{payloadSymbols, versionOf, programOf, roomSmall, readingRules, addressRules, readVerdict, readBytesVerdict, addressVerdict, readAddressVerdict, prefixPart, payload}
 use Rattle.answers.specs.declared.Reading.the-variants as reading
 use Rattle.answers.specs.declared.Written.the-variants as written

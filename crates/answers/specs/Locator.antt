@@ -1,6 +1,6 @@
 -- Document 01, "Locator": the place of one changed symbol, counted from the end, 0 being the last.
 use mathlib.Core.Bool.{Bool}
-use mathlib.Core.List.{List, [], _∷_, map}
+use mathlib.Core.List.{List, _∷_, map}
 use Prim.Native.Nat.{ℕ, suc}
 use lib.Dec.{eqb, ltb}
 use lib.ListN.{replicate}

@@ -4,10 +4,10 @@ use Prim.Native.Nat.{ℕ, _+_, _-_, _*_, _/_, _%_, _^_, _<_, _≤_}
 use native.Mathlib.Nat.{mod-lt, mod-eq-of-lt, div-eq-of-lt}
 use native.Mathlib.Omega.{arith}
 use lib.Bits.{bitAnd, and-mask, xor-shifted}
-use lib.Pow.{pow-pos, shl-lt, shl-exact, shl-shr, shr-shr, field, mod-mod-pow}
+use lib.Pow.{pow-pos, shl-exact, shl-shr, shr-shr, field, mod-mod-pow}
 use Rattle.laws.specs.Xor.{_⊕_, columns}
-use Rattle.laws.proofs.Xor.{xor-laws, ⊕-zero, ⊕-lt}
-use Rattle.laws.proofs.Additive.{Additive, add-comp, add-sum, add-mod, add-shr, add-shl, columns-add, columns-lt, add0}
+use Rattle.laws.proofs.Xor.{xor-laws, ⊕-zero}
+use Rattle.laws.proofs.Additive.{Additive, columns-add, add0}
 use Rattle.paper.specs.Checksum.{generator, step}
 use Rattle.paper.proofs.Polymod.{push, push-add, step-push}
 use Rattle.checksum.proofs.Columns.{columns-low}

@@ -1,8 +1,8 @@
 -- What `detection` computes by turns is what the port computes in GF(1024): turns are products with powers of 1 + 6e, and a residue's value at
 -- such a power is that of its polynomial. What carries it: a turn and the product with 1 + 6e both respect exclusive or, and agree at ten numbers.
 use mathlib.Core.Path.{_≡_, refl, sym, ap, ap₂, _∙_}
-use mathlib.Core.List.{List, [], _∷_, reverse}
-use Prim.Native.Nat.{ℕ, zero, suc, _/_, _%_, _^_, _<_, _≤_}
+use mathlib.Core.List.{List, [], _∷_}
+use Prim.Native.Nat.{ℕ, zero, suc, _/_, _%_, _<_, _≤_}
 use native.Mathlib.Nat.{mod-eq-of-lt}
 use native.Mathlib.Omega.{arith}
 use lib.Bits.{bitXor}
@@ -10,7 +10,7 @@ use lib.Dec.{T, lit≤}
 use Rattle.laws.specs.Xor.{_⊕_, columns}
 use Rattle.laws.specs.Times.{times}
 use Rattle.laws.proofs.Xor.{⊕-is, ⊕-comm}
-use Rattle.laws.proofs.Additive.{Additive, times-none, add-mod, agree, basis}
+use Rattle.laws.proofs.Additive.{Additive, add-mod, agree, basis}
 use Rattle.gf32.specs.Field.{products, timesA, sum as sum32, product as product32}
 use Rattle.gf32_ext.specs.Field.{sum, product, power}
 use Rattle.gf32_ext.specs.Roots.{rootGenerator}

@@ -1,11 +1,9 @@
 -- The locator's verdict by stages: what taking the string apart refuses, what the second stage refuses, and the place where that is 9.
 use mathlib.Core.Path.{_≡_, sym, ap, ap₂, _∙_}
-use mathlib.Core.Bool.{Bool, true, false}
 use mathlib.Core.List.{List, map}
 use Prim.Native.Nat.{ℕ, _^_, _<_}
-use lib.Dec.{eqb, lit<}
+use lib.Dec.{lit<}
 use borrow.Author.Tests.{eq-eqb, ne-eqb, not-false}
-use Rattle.laws.specs.Pick.{pick}
 use Rattle.laws.specs.Lists.{all}
 use Rattle.paper.specs.Charset.{isSymbol, symbol}
 use Rattle.paper.specs.Checksum.{residue}

@@ -1,13 +1,13 @@
 -- One change and the values at the three roots: each test of `place_of` fails only where no place explains the residue, and where all pass the
 -- root's exponent does.
-use mathlib.Core.Path.{_≡_, refl, sym, ap, ap₂, _∙_, subst}
+use mathlib.Core.Path.{_≡_, refl, sym, ap, _∙_}
 use mathlib.Core.Logic.{_≢_}
 use mathlib.Core.Bool.{Bool, true, false}
 use mathlib.Core.List.{[], _∷_}
-use Prim.Native.Nat.{ℕ, zero, suc, _*_, _%_, _^_, _<_, _≤_}
+use Prim.Native.Nat.{ℕ, _*_, _%_, _^_, _<_, _≤_}
 use native.Mathlib.Nat.{mod-eq-of-lt, mul-comm, pos-of-ne-zero}
 use native.Mathlib.Omega.{arith}
-use lib.Dec.{eqb, ltb}
+use lib.Dec.{ltb}
 use borrow.Author.Tests.{eqb-true, eq-eqb, ltb-true, ltb-false}
 use Rattle.laws.specs.Pick.{pick}
 use Rattle.laws.specs.Xor.{_⊕_}
@@ -16,8 +16,8 @@ use Rattle.laws.proofs.First.{found-from, not-later-from}
 use Rattle.gf32_ext.specs.Field.{sum, product, power, quotient}
 use Rattle.gf32_ext.specs.Roots.{rootGenerator}
 use Rattle.gf32_ext.specs.declared.Quotient.the-variants.{Value, Refused}
-use Rattle.gf32_ext.proofs.Field.{sum-is, product-comm, product-mod, zero-product, product-zero, product-one, zero-sum}
-use Rattle.gf32_ext.proofs.Norm.{no-quotient, divisor-nonzero, quotient-lt, quotient-times, other-factor}
+use Rattle.gf32_ext.proofs.Field.{sum-is, product-comm, product-mod, product-zero, product-one, zero-sum}
+use Rattle.gf32_ext.proofs.Norm.{no-quotient, divisor-nonzero, quotient-times, other-factor}
 use Rattle.gf32_ext.proofs.Powers.{power-lt, power-of-power, power-nonzero}
 use Rattle.fieldvec.specs.Lists.{listed}
 use Rattle.polynomial.specs.Polynomials.{valueAt, isRoot}

@@ -1,19 +1,19 @@
 -- Wrong answers that the promises exclude, each on a concrete input: a function that always refuses, one that leaves its results or the buffer alone,
 -- one that takes any code.
-use mathlib.Core.Path.{_≡_, refl, sym, ap, _∙_}
+use mathlib.Core.Path.{_≡_, refl, ap, _∙_}
 use mathlib.Core.List.{List, [], _++_}
 use Prim.Native.Nat.{ℕ, suc}
 use native.Mathlib.Omega.{arith}
-use lib.ListN.{length, getD, replicate}
+use lib.ListN.{getD, replicate}
 use Rattle.laws.specs.Text.{bytes}
 use Rattle.paper.specs.Checksum.{bech32}
-use Rattle.answers.specs.Reading.{addressVerdict, readAddressVerdict, readVerdict, readBytesVerdict, programOf, programAfter, bufferAfter}
+use Rattle.answers.specs.Reading.{readAddressVerdict, readBytesVerdict, programOf, programAfter, bufferAfter}
 use Rattle.answers.specs.declared.Written.{Written}
 use Rattle.answers.specs.declared.Written.the-variants as written
 use Rattle.answers.proofs.Computing.{computing}
 use Rattle.correction.proofs.Examples.{last-changed, fourth-changed}
 use Rattle.answers.proofs.Cases.{taproot, room-32, abcd-bech32, write-90, write-version-17}
-use Rattle.answers.specs.Numbers.{numberOfReading, symbolsOfReading, numberOfWritten, countOfWritten, numberOfAddress, versionOfAddress, numberOfLocated, placeOfLocated}
+use Rattle.answers.specs.Numbers.{numberOfReading, numberOfWritten, numberOfAddress, versionOfAddress, numberOfLocated, placeOfLocated}
 use Rattle.face.specs.Codes.{codedRead, codedLocate, codedBytes, codedWrite, codedString}
 use Rattle.face.specs.Promises.{AddressChecked, AddressRead, StringRead, PlaceLocated, BytesRead, SymbolsWritten, BytesWritten, AddressWritten}
 

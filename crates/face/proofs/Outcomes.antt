@@ -4,8 +4,8 @@ use mathlib.Core.List.{List}
 use Prim.Native.Nat.{ℕ}
 use lib.ListN.{length}
 use borrow.Author.Tests.{eq-eqb, ne-eqb}
-use Rattle.paper.specs.Bits.{toBytes, toSymbols}
-use Rattle.answers.specs.Reading.{payloadSymbols, addressVerdict, readAddressVerdict}
+use Rattle.paper.specs.Bits.{toSymbols}
+use Rattle.answers.specs.Reading.{addressVerdict, readAddressVerdict}
 use Rattle.answers.specs.declared.Reading.{Reading}
 use Rattle.answers.specs.declared.Reading.the-variants as reading
 use Rattle.answers.specs.declared.Written.{Written}

@@ -1,6 +1,6 @@
 -- Products and quotients by exponents, as the code computes them from its two tables. Each law is one computed test below 32.
-use mathlib.Core.Path.{_≡_, refl, sym, ap, ap₂, _∙_, subst, subst₂}
-use Prim.Native.Nat.{ℕ, zero, suc, _+_, _-_, _*_, _/_, _%_, _^_, _<_, _≤_}
+use mathlib.Core.Path.{_≡_, refl, sym, ap, ap₂, _∙_, subst}
+use Prim.Native.Nat.{ℕ, zero, suc, _+_, _-_, _/_, _%_, _^_, _<_}
 use native.Mathlib.Nat.{mod-lt, zero-lt-suc}
 use native.Mathlib.Omega.{arith}
 use lib.Dec.{T, eqb}
@@ -9,7 +9,7 @@ use Rattle.laws.specs.Lists.{allBelow}
 use Rattle.laws.proofs.Below.{equal-below, equal-below₂}
 use Rattle.gf32.specs.Field.{timesA, product, inverse}
 use Rattle.gf32.specs.Exponents.{powerOf, logOf}
-use Rattle.gf32.proofs.Field.{below32, rows, fast, fast-is-product, product-mod, product-mod-left, inverse-mod, inverses, inverse-by-table}
+use Rattle.gf32.proofs.Field.{below32, fast, fast-is-product, product-mod, product-mod-left, inverse-mod, inverses, inverse-by-table}
 
 -- the two tables as digits to base 32, which compute faster than the definitions
 abbrev powers : ℕ → ℕ

@@ -5,7 +5,7 @@ use lib.Dec.{eqb}
 use lib.ListN.{replicate}
 use Rattle.laws.specs.Pick.{pick}
 use Rattle.laws.specs.Xor.{_⊕_, columns}
-use Rattle.paper.specs.Charset.{symbol, lower}
+use Rattle.paper.specs.Charset.{lower}
 
 -- "Checksum", the five numbers of the generator
 abbrev pub generator : List ℕ

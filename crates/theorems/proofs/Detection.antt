@@ -1,9 +1,9 @@
 -- Changed symbols are found: one, two or three in up to 1023 characters, up to four within 89 symbols of the data part, and so in every string of at
 -- most 90 characters. Under the same checksum, and only where the separator stays: see Changed.
-use mathlib.Core.Path.{_≡_, refl, sym, ap, _∙_}
+use mathlib.Core.Path.{_≡_, refl, ap}
 use mathlib.Core.Logic.{_⊎_, inl, inr, _↔_}
 use mathlib.Core.Bool.{Bool, true, false}
-use mathlib.Core.List.{List, [], _∷_, _++_, map}
+use mathlib.Core.List.{List, _∷_, _++_, map}
 use Prim.Native.Nat.{ℕ, _+_, _≤_}
 use native.Mathlib.Omega.{arith}
 use native.Mathlib.Decide.{ℕ-discrete}
@@ -12,7 +12,7 @@ use lib.ListN.{length, length-append}
 use borrow.Author.Tests.{ltb-false, eqb-true, not-false, eq-eqb, ne-eqb}
 use Rattle.paper.specs.Charset.{symbol}
 use Rattle.paper.specs.Checksum.{residue, constantOf}
-use Rattle.answers.specs.Order.{NoneApplies, FirstApplies}
+use Rattle.answers.specs.Order.{NoneApplies}
 use Rattle.answers.specs.Rules.{versionUnknown}
 use Rattle.answers.specs.Reading.{dataPart, prefixPart, payload, versionOf, programOf, longerThan, dataShort, dataMissing, checksumWrong, stringRules, readingRules, addressRules, readVerdict, addressVerdict}
 use Rattle.answers.specs.declared.Reading.the-variants as reading

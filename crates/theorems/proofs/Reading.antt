@@ -1,6 +1,6 @@
 -- The code accepts exactly what the papers accept: the readers' promises, put together with the theorems about document 01's verdicts. For any bytes of
 -- any length.
-use mathlib.Core.Path.{_≡_, refl, sym, ap, _∙_, subst}
+use mathlib.Core.Path.{_≡_, sym, ap, _∙_}
 use mathlib.Core.Logic.{_↔_}
 use mathlib.Core.List.{List, _++_}
 use Prim.Native.Nat.{ℕ, _≤_}
@@ -9,7 +9,7 @@ use lib.ListN.{length, drop}
 use Rattle.laws.specs.Text.{bytes}
 use Rattle.paper.specs.Valid.{ValidAddress}
 use Rattle.answers.specs.Accepted.{ReadAs, AddressAs}
-use Rattle.answers.specs.Reading.{programOf, addressVerdict, readAddressVerdict, programAfter}
+use Rattle.answers.specs.Reading.{programOf, addressVerdict, programAfter}
 use Rattle.answers.specs.declared.Reading.{Reading}
 use Rattle.answers.specs.declared.Reading.the-variants as reading
 use Rattle.answers.specs.declared.Address.{Address}

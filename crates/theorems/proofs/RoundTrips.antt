@@ -1,16 +1,16 @@
 -- What we write we read back, and rewriting what we read gives the same string in lower case: the writers' promises put together with the readers'
 -- verdicts. So a prefix, a checksum and data have one string, case aside.
-use mathlib.Core.Path.{_≡_, refl, sym, ap, ap₂, _∙_}
+use mathlib.Core.Path.{_≡_, sym, ap, _∙_}
 use mathlib.Core.Logic.{_↔_}
 use mathlib.Core.Bool.{false}
-use mathlib.Core.List.{List, [], _∷_, _++_, map}
-use Prim.Native.Nat.{ℕ, _<_, _≤_, _^_}
+use mathlib.Core.List.{List, _∷_, _++_, map}
+use Prim.Native.Nat.{ℕ, _<_}
 use native.Mathlib.Nat.{le-refl}
 use lib.ListN.{length, take, drop, replicate}
 use lib.Seq.{take-at}
 use Rattle.laws.specs.Xor.{_⊕_}
 use Rattle.laws.specs.Lists.{Every}
-use Rattle.paper.specs.Charset.{symbol, letter, lower}
+use Rattle.paper.specs.Charset.{letter, lower}
 use Rattle.paper.specs.Checksum.{polymod, expand, residue, sixSymbols, checksum, constantOf}
 use Rattle.paper.specs.Bits.{toBytes, toSymbols}
 use Rattle.answers.specs.Rules.{paddingLong, paddingNotZero}
@@ -29,7 +29,7 @@ use Rattle.iter.proofs.Lengths.{symbols-below}
 use Rattle.encode.specs.Promises.{Wrote, SymbolsWritten, BytesWritten, AddressWritten}
 use Rattle.encode.proofs.Accepted.{SymbolsFit, symbols-accepted, address-accepted}
 use Rattle.encode.proofs.Lengths.{written-length, address-length}
-use Rattle.encode.proofs.ReadBack.{written-prefix, written-symbols, written-bytes, accepted-is-read, accepted-address-is-read}
+use Rattle.encode.proofs.ReadBack.{written-prefix, written-symbols, accepted-is-read, accepted-address-is-read}
 use Rattle.encode.proofs.Rewritten.{rewritten-is-lower, readdressed-is-lower, reread-is-written}
 
 -- ---- 1. what we write we read back

@@ -1,8 +1,8 @@
 -- Both bounds are sharp. At 90 symbols of the data part two accepted strings differ in four places; at 1024 symbols two changes can go unseen.
 use mathlib.Core.Path.{_≡_, refl}
-use mathlib.Core.List.{List, _∷_, _++_}
+use mathlib.Core.List.{List}
 use Prim.Native.Nat.{ℕ}
-use lib.Dec.{eqb, lit≤}
+use lib.Dec.{lit≤}
 use lib.ListN.{length}
 use Rattle.laws.specs.Text.{bytes}
 use Rattle.paper.specs.Checksum.{bech32}

@@ -1,23 +1,22 @@
 -- A changed string is read in the same parts, and every rule but the checksum's says of it what it said of the string.
-use mathlib.Core.Path.{_≡_, refl, sym, ap, _∙_, subst}
-use mathlib.Core.Logic.{_≢_}
-use mathlib.Core.Bool.{Bool, true, false, not}
-use mathlib.Core.List.{List, [], _∷_, _++_, map}
-use Prim.Native.Nat.{ℕ, suc, _+_, _≤_, _<_}
+use mathlib.Core.Path.{_≡_, refl, sym, ap, _∙_}
+use mathlib.Core.Bool.{true, false}
+use mathlib.Core.List.{List, _∷_, _++_, map}
+use Prim.Native.Nat.{ℕ, suc, _+_, _≤_}
 use native.Mathlib.Omega.{arith}
-use lib.Dec.{eqb, ltb}
+use lib.Dec.{eqb}
 use lib.ListN.{length, length-append, length-map}
-use borrow.Author.Tests.{ltb-true, eqb-true, not-true, not-false, ne-eqb}
-use Rattle.laws.specs.Lists.{any, all, Every}
-use Rattle.laws.proofs.Bools.{both-ways, and-first, and-second}
-use Rattle.laws.proofs.Lists.{all-every, any-none, none-any, every-all}
+use borrow.Author.Tests.{eqb-true, not-false, ne-eqb}
+use Rattle.laws.specs.Lists.{any, all}
+use Rattle.laws.proofs.Bools.{both-ways}
+use Rattle.laws.proofs.Lists.{all-every, none-any}
 use Rattle.paper.specs.Charset.{isSeparator, isSymbol, symbol, lower, charset}
 use Rattle.paper.specs.Checksum.{polymod, expand, residue}
 use Rattle.paper.proofs.Symbols.{symbols-of}
 use Rattle.answers.specs.Order.{NoneApplies}
-use Rattle.answers.specs.Reading.{dataPart, prefixPart, characterOutside, mixedCase, separatorMissing, prefixEmpty, prefixLong, prefixByteOutside, longerThan, dataShort, checksumWrong, stringRules}
+use Rattle.answers.specs.Reading.{dataPart, prefixPart, characterOutside, separatorMissing, prefixEmpty, prefixLong, prefixByteOutside, longerThan, dataShort, checksumWrong, stringRules}
 use Rattle.answers.proofs.Split.{separator-seen, dataPart-of, prefixPart-of}
-use Rattle.detection.specs.Patterns.{Symbols, dist, Near, Clean}
+use Rattle.detection.specs.Patterns.{dist, Near, Clean}
 use Rattle.detection.proofs.Detection.{detects-after}
 use Rattle.detection.proofs.Distance.{dist-self}
 use Rattle.theorems.specs.Changes.{Changed}

@@ -1,7 +1,6 @@
 -- `power_24` gives the 24th power: 24 is 3 times 8.
 use mathlib.Core.Path.{_≡_, sym, ap, ap₂, _∙_}
 use Prim.Native.Nat.{ℕ, _+_}
-use native.Mathlib.Nat.{mod-eq-of-lt}
 use Rattle.gf32_ext.specs.Field.{product, power}
 use Rattle.gf32_ext.proofs.Field.{product-comm, product-mod-right}
 use Rattle.gf32_ext.proofs.Powers.{power-one, power-more, power-plus}
