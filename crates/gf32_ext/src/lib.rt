@@ -2,7 +2,6 @@
 // the number a0 + 32 a1; a number over 1023 counts by its remainder.
 use answers::DIVISION_BY_ZERO;
 ghost use mathlib.Core.Path.{_≡_};
-ghost use Prim.Native.Nat.{_<_};
 ghost use Rattle.gf32_ext.specs.Field.{low, high, packed};
 ghost use Rattle.gf32_ext.specs.Promises.{Added, Multiplied, Inverted, Divided};
 
