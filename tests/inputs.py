@@ -82,10 +82,10 @@ def damaged(rng, text):
     return text.replace("1", "", 1)
 
 
-def symbols_of_every_length(rng):
+def symbols_of_every_length(rng, versions):
     """Addresses whose program is any number of symbols, so that every leftover comes, zero or not."""
     for count in range(0, 70):
-        for version in (0, 1, 16, 17, 31):
+        for version in versions:
             symbols = [rng.randrange(32) for _ in range(count)]
             for constant in (BECH32, BECH32M):
                 yield write("bc", [version] + symbols, constant)

@@ -1,5 +1,5 @@
 #!/usr/bin/env python3
-"""Makes reading.txt: what the Rust answers for about 3,000 strings. A line is: operation, string in hexadecimal, number, and
+"""Makes reading.txt: what the Rust answers for about 10,000 strings. A line is: operation, string in hexadecimal, number, and
 what else the Rust gave; nothing is a dash.
 
 Operations: 1 and 2, generic reading under Bech32 and Bech32m (prefix in lower case, data part without its checksum, its bytes);
@@ -14,6 +14,7 @@ TESTS = Path(__file__).resolve().parents[1]
 sys.path[:0] = [str(TESTS), str(TESTS / "rust")]
 
 import build
+import cases
 import inputs
 from rust import Rust
 
@@ -25,11 +26,13 @@ def strings():
         for line in file.read_text(encoding="utf-8").splitlines():
             if line and not line.startswith("#"):
                 yield bytes.fromhex(line.split("\t")[0])
-    for length in range(0, 4):
+    for text, _ in cases.CASES:
+        yield text.encode()
+    for length in range(0, 5):
         for text in inputs.short(length):
             yield text.encode()
     rng = inputs.seeded(20)
-    for text in inputs.symbols_of_every_length(rng):
+    for text in inputs.symbols_of_every_length(rng, (0, 1, 16, 17, 31)):
         yield text.encode()
     for text, _ in zip(inputs.stream(rng), range(700)):
         yield text.encode()
