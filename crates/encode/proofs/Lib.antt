@@ -9,3 +9,4 @@ pub mod Laying
 pub mod Letters
 pub mod ReadBack
 pub mod Rewritten
+pub mod Excluded
