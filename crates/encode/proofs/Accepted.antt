@@ -18,7 +18,8 @@ use Rattle.answers.specs.declared.Verdict.the-variants as verdict
 use Rattle.answers.specs.declared.Written.{Written}
 use Rattle.answers.specs.declared.Written.the-variants.{Accepted, Refused}
 use Rattle.answers.proofs.Rooms.{written-apart}
-use Rattle.hrp.proofs.Prefix.{Legal, prefix-accepted}
+use Rattle.hrp.specs.Prefix.{Legal}
+use Rattle.hrp.proofs.Prefix.{prefix-accepted}
 use Rattle.segwit.proofs.Rules.{LegalLength, version-accepted, length-accepted}
 use Rattle.encode.specs.Sizes.{sizeVerdict}
 use Rattle.encode.proofs.Large.{all-small, none-large}

@@ -24,7 +24,8 @@ use Rattle.checksum.proofs.Constants.{constant-of-version, constant-lt}
 use Rattle.checksum.specs.Parameters.{checksumFor}
 use Rattle.checksum.proofs.Written.{checksum-only}
 use Rattle.hrp.proofs.Case.{folded-twice, folded-not-upper}
-use Rattle.hrp.proofs.Prefix.{Legal, folded-legal}
+use Rattle.hrp.specs.Prefix.{Legal}
+use Rattle.hrp.proofs.Prefix.{folded-legal}
 use Rattle.segwit.proofs.Rules.{LegalLength}
 use Rattle.iter.proofs.Groups.{every-append}
 use Rattle.iter.proofs.Lengths.{symbols-below}

@@ -23,7 +23,7 @@ use Rattle.answers.specs.declared.Address.the-variants as address
 use Rattle.answers.specs.declared.Written.the-variants as written
 use Rattle.answers.proofs.Exact.{valid-data, valid-prefix, valid-version, valid-program, reads-exactly, address-exactly}
 use Rattle.checksum.proofs.Written.{checksum-only}
-use Rattle.hrp.proofs.Prefix.{Legal}
+use Rattle.hrp.specs.Prefix.{Legal}
 use Rattle.iter.proofs.Groups.{every-take, every-drop}
 use Rattle.iter.proofs.Round.{symbols-round}
 use Rattle.encode.proofs.Accepted.{symbols-accepted, address-accepted}

@@ -18,22 +18,9 @@ use Rattle.answers.specs.Order.{_gives_, firstOf, NoneApplies}
 use Rattle.answers.specs.Rules.{offence, prefixRules, prefixVerdict}
 use Rattle.answers.specs.declared.Verdict.the-variants.{Accepted, Refused}
 use Rattle.answers.proofs.Orders.{accepts, accepted-only}
+use Rattle.hrp.specs.Prefix.{Fine, Legal, Refusal, empty, long, not-printable, mixed}
 use Rattle.hrp.proofs.Case.{between-bounds, folded-not-upper, folded-printable}
-use Rattle.hrp.proofs.Offence.{Fine, FirstNotPrintable, FirstMixed, fine-0, first-6, first-2, Bytes, all-fine, first-not-printable, first-mixed, bytes-of, one-case-offence}
-
--- BIP-173, "Bech32" and "Uppercase/lowercase": what a prefix must be
-pub record Legal (p : List ℕ) : Type 0 where
-  pub not-empty : 1 ≤ length p
-  pub not-long : length p ≤ 83
-  pub printable : Every (λ c. (33 ≤ c) × (c ≤ 126)) p
-  pub one-case : any isUpper p && any isLower p ≡ false
-
--- document 01, "Generic writing", prefix: what each refusal says of it
-pub data Refusal (p : List ℕ) : ℕ → Type 0 where
-  empty : length p ≡ 0 → Refusal p 4
-  long : 83 < length p → Refusal p 5
-  not-printable : length p ≤ 83 → FirstNotPrintable p → Refusal p 6
-  mixed : length p ≤ 83 → FirstMixed p → Refusal p 2
+use Rattle.hrp.proofs.Offence.{fine-0, first-6, first-2, Bytes, all-fine, first-not-printable, first-mixed, bytes-of, one-case-offence}
 
 -- ---- the length first, then the offence
 

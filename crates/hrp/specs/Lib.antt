@@ -1,3 +1,4 @@
+pub mod Prefix
 pub mod Compare
 pub mod Networks
 pub mod Folding

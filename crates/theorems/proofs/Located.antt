@@ -24,7 +24,6 @@ use Rattle.answers.specs.declared.Reading.the-variants as reading
 use Rattle.answers.specs.declared.Located.{Located}
 use Rattle.answers.specs.declared.Located.the-variants as located
 use Rattle.detection.specs.Patterns.{dist}
-use Rattle.detection.specs.Places.{Explains}
 use Rattle.detection.proofs.Distance.{dist-set, dist-zero}
 use Rattle.detection.proofs.Locate.{one-place, explains-change}
 use Rattle.checksum.specs.Parameters.{constantFor}
@@ -33,13 +32,9 @@ use Rattle.decode.specs.Promises.{WasRead}
 use Rattle.correction.specs.Promises.{WasLocated}
 use Rattle.correction.proofs.Verdicts.{statement-explains, place-found, place-given}
 use Rattle.theorems.specs.Changes.{Changed, ChangedAt}
+use Rattle.theorems.specs.Named.{Named}
 use Rattle.theorems.proofs.Strings.{part-before, part-after, prefix-after, prefix-before}
 use Rattle.theorems.proofs.Detection.{three-changes-refused, residue-right, length-right}
-
--- what document 01 asks of a place that is named: reading under this checksum says 9, and some change of the symbol there would be accepted
-abbrev pub Named : ℕ → List ℕ → ℕ → Type 0
-Named constant s p =
-    (readVerdict constant s ≡ reading.Refused 9) × (p < 1023) × Explains (residue (prefixPart s) (map symbol (dataPart s))) constant p
 
 module _ (constant : ℕ) (s : List ℕ) (p : ℕ) where
   place : Located

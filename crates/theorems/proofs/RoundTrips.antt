@@ -31,6 +31,7 @@ use Rattle.encode.proofs.Accepted.{SymbolsFit, symbols-accepted, address-accept
 use Rattle.encode.proofs.Lengths.{written-length, address-length}
 use Rattle.encode.proofs.ReadBack.{written-prefix, written-symbols, accepted-is-read, accepted-address-is-read}
 use Rattle.encode.proofs.Rewritten.{rewritten-is-lower, readdressed-is-lower, reread-is-written}
+use Rattle.theorems.specs.ReadBack.{ReadBack}
 
 -- ---- 1. what we write we read back
 
@@ -39,12 +40,6 @@ written-part : (verdict : Written) (content before : List ℕ) (r : Written) (af
     → r ≡ written.Accepted n → length content ≡ n → take n after ≡ content
 written-part verdict content before r after n kept e size =
     ap (take n) (kept .buffer ∙ ap (λ (v : Written). bufferAfter v content before) (sym (kept .answer) ∙ e)) ∙ take-at content (drop n before) n size
-
--- a string read back: the same prefix in lower case, and the same symbols
-pub record ReadBack (constant : ℕ) (prefix symbols t : List ℕ) : Type 0 where
-  pub accepted : readVerdict constant t ≡ reading.Accepted (length prefix) (length symbols)
-  pub same-prefix : prefixPart t ≡ map lower prefix
-  pub same-symbols : payloadSymbols t ≡ symbols
 
 module _ (kind : Checksum) (prefix symbols before : List ℕ) (r : Written) (after : List ℕ) (n : ℕ) where
   -- encode::write_symbols: what it wrote is read, under the same checksum, as what was written
