@@ -5,17 +5,16 @@ use mathlib.Core.List.{List, [], _∷_, _++_, map}
 use Prim.Native.Nat.{ℕ, zero, suc, _+_, _<_, _≤_}
 use native.Mathlib.Nat.{not-suc-le-zero, le-of-suc-le-suc}
 use native.Mathlib.Omega.{arith}
-use borrow.Author.Tests.{le-ltb}
 use lib.ListN.{length, take, drop, getD, replicate, length-map}
 use lib.Seq.{length-take-le, take-at, drop-at}
 use Rattle.laws.specs.Text.{bytes}
 use Rattle.answers.specs.Numbers.{numberOfVerdict}
-use Rattle.answers.specs.Batch.{entryVerdict, judged, batchVerdict, entriesAfter}
+use Rattle.answers.specs.Batch.{entryVerdict, judged, batchVerdict, entriesAfter, countVerdict}
 use Rattle.answers.specs.declared.Verdict.{Verdict}
 use Rattle.answers.specs.declared.Verdict.the-variants as verdict
 use Rattle.answers.specs.declared.Entry.{Entry}
 use Rattle.answers.proofs.Computing.{computing}
-use Rattle.batch.specs.ByValue.{entriesOf, countVerdict, judgedAll}
+use Rattle.batch.specs.ByValue.{entriesOf, judgedAll}
 use Rattle.batch.specs.Promises.{BatchJudged, AllJudged}
 use Rattle.batch.specs.declared.Batch.{Batch}
 use Rattle.batch.specs.declared.Judged.{Judged}
@@ -25,7 +24,7 @@ use Rattle.batch.proofs.Turns.{none, count-accepted}
 
 few-accepted : (before : List Entry) → length before ≤ 32 → batchVerdict before ≡ verdict.Accepted
 unfolding batchVerdict
-few-accepted before h = rw (le-ltb 32 (length before) h)
+few-accepted before h = count-accepted (length before) h
 
 -- the element at i of a mapped list
 map-at : (z : Entry) (f : Entry → Entry) (l : List Entry) (i : ℕ) → i < length l → getD (map f l) i z ≡ f (getD l i z)
@@ -73,16 +72,13 @@ after-length : (v : Verdict) (buffer : List ℕ) (l : List Entry) → length (en
 after-length verdict.Accepted buffer l = length-map l (judged buffer)
 after-length (verdict.Refused n) buffer l = refl
 
-counted : (l : List Entry) → batchVerdict l ≡ countVerdict (length l)
-unfolding batchVerdict countVerdict
-counted l = refl
-
 module _ (buffer : List ℕ) (b : Batch) (enough : b .count ≤ length (b .entries)) where
   list-length : length (entriesOf b) ≡ b .count
   list-length = length-take-le (b .count) (b .entries) enough
 
   same-verdict : countVerdict (b .count) ≡ batchVerdict (entriesOf b)
-  same-verdict = ap countVerdict (sym list-length) ∙ sym (counted (entriesOf b))
+  unfolding batchVerdict
+  same-verdict = ap countVerdict (sym list-length)
 
   same-entries : take (b .count) (entriesAfter (countVerdict (b .count)) buffer (entriesOf b) ++ drop (b .count) (b .entries))
       ≡ entriesAfter (batchVerdict (entriesOf b)) buffer (entriesOf b)
@@ -123,5 +119,5 @@ not-stopped-by-value rest r is = rw is refl
 
 pub thirty-three-refused : (buffer : List ℕ) (e : Entry) (r : ℕ) (after : List Entry) → BatchJudged buffer (replicate 33 e) r after
     → (r ≡ 19) × (after ≡ replicate 33 e)
-unfolding batchVerdict
+unfolding batchVerdict countVerdict
 thirty-three-refused buffer e r after is = (is .number, is .entries)

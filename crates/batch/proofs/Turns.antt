@@ -6,10 +6,10 @@ use native.Mathlib.Omega.{arith}
 use borrow.Author.Tests.{lt-ltb, le-ltb}
 use lib.ListN.{length, take, set, getD, take-append-drop}
 use Rattle.laws.proofs.Front.{front, in-place}
-use Rattle.answers.specs.Batch.{judged}
+use Rattle.answers.specs.Batch.{judged, countVerdict}
 use Rattle.answers.specs.declared.Verdict.the-variants as verdict
 use Rattle.answers.specs.declared.Entry.{Entry}
-use Rattle.batch.specs.ByValue.{countVerdict, judgedAll}
+use Rattle.batch.specs.ByValue.{judgedAll}
 use Rattle.batch.specs.declared.Batch.{Batch}
 
 abbrev pub none : Entry

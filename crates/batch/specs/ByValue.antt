@@ -1,12 +1,8 @@
 -- Document 01, "Batch", for a list that comes by value: an array of 32 entries, of which the first ones, as many as its count says, are the list.
-use mathlib.Core.List.{List, [], _∷_, _++_}
+use mathlib.Core.List.{List, _++_}
 use Prim.Native.Nat.{ℕ}
-use lib.Dec.{ltb}
 use lib.ListN.{take, drop}
-use Rattle.answers.specs.Order.{_gives_, firstOf}
-use Rattle.answers.specs.Batch.{entriesAfter}
-use Rattle.answers.specs.declared.Verdict.{Verdict}
-use Rattle.answers.specs.declared.Verdict.the-variants as verdict
+use Rattle.answers.specs.Batch.{countVerdict, entriesAfter}
 use Rattle.answers.specs.declared.Entry.{Entry}
 use Rattle.batch.specs.declared.Batch.{Batch}
 use Rattle.batch.specs.declared.Judged.{Judged}
@@ -14,11 +10,7 @@ use Rattle.batch.specs.declared.Judged.{Judged}
 abbrev pub entriesOf : Batch → List Entry
 entriesOf b = take (b .count) (b .entries)
 
--- answer 19 goes by the count, which may say more than the array has
-unfoldable pub countVerdict : ℕ → Verdict
-countVerdict count = firstOf (λ n. verdict.Refused n) (ltb 32 count gives 19 ∷ []) verdict.Accepted
-
--- the list as document 01 has it afterwards; the rest of the array and the count are kept
+-- the list as document 01 has it afterwards. Answer 19 goes by the count, which may say more than the array has; the rest of the array and the count are kept
 unfoldable pub judgedAll : List ℕ → Batch → Judged
 judgedAll buffer b =
     record {

@@ -6,12 +6,12 @@ use native.Mathlib.Omega.{arith}
 use Rattle.laws.specs.Text.{bytes}
 use Rattle.laws.specs.Xor.{_⊕_, columns}
 use Rattle.laws.specs.Times.{times}
-use Rattle.paper.specs.Checksum.{bech32}
+use Rattle.paper.specs.Checksum.{bech32, changeAt}
 use Rattle.gf32.specs.Field.{products, timesA, sum as sum32, product as product32}
 use Rattle.gf32_ext.specs.Field.{sum, product, power, inverse, quotient}
 use Rattle.gf32_ext.specs.declared.Quotient.the-variants.{Value}
 use Rattle.detection.specs.Roots.{turn, valueOf, value}
-use Rattle.answers.specs.Locator.{changeAt, explains, placeVerdict, locateVerdict}
+use Rattle.answers.specs.Locator.{explains, placeVerdict, locateVerdict}
 use Rattle.answers.specs.declared.Located.{Located}
 use Rattle.answers.specs.declared.Located.the-variants as located
 use Rattle.answers.proofs.Computing.{computing}

@@ -1,5 +1,5 @@
 -- Document 01's locator as a statement: its test of a place, the place that explains the residue, and that there is at most one below 1023.
-use mathlib.Core.Path.{_≡_, refl, sym, ap, _∙_}
+use mathlib.Core.Path.{_≡_, refl}
 use mathlib.Core.Bool.{Bool, true, false}
 use Prim.Native.Nat.{ℕ, zero, suc, _<_}
 use native.Mathlib.Omega.{arith}
@@ -10,14 +10,11 @@ use Rattle.laws.specs.Xor.{_⊕_}
 use Rattle.laws.specs.Lists.{anyBelow, firstBelow}
 use Rattle.laws.proofs.Below.{some-below, below-some}
 use Rattle.laws.proofs.First.{first-below, found-below}
-use Rattle.answers.specs.Locator.{changeAt, explains, placeVerdict}
+use Rattle.paper.specs.Checksum.{changeAt}
+use Rattle.answers.specs.Locator.{explains, placeVerdict}
 use Rattle.answers.specs.declared.Located.the-variants as located
-use Rattle.detection.specs.Places.{atPlace, Explains}
+use Rattle.detection.specs.Places.{Explains}
 use Rattle.detection.proofs.Locate.{one-place}
-
-same-change : (p e : ℕ) → changeAt p e ≡ atPlace p e
-unfolding changeAt atPlace
-same-change p e = refl
 
 module _ (constant r p : ℕ) where
   pub explains-statement : explains constant r p ≡ true → Explains r constant p
@@ -28,18 +25,18 @@ module _ (constant r p : ℕ) where
       record {
         change = suc (found .0);
         proper = (omega arith, omega arith);
-        gives = ap (λ (x : ℕ). r ⊕ x) (sym (same-change p (suc (found .0)))) ∙ eqb-true (r ⊕ changeAt p (suc (found .0))) constant (found .2);
+        gives = eqb-true (r ⊕ changeAt p (suc (found .0))) constant (found .2);
       }
 
   pub statement-explains : Explains r constant p → explains constant r p ≡ true
   unfolding explains
   statement-explains x = by-change (x .change) (x .proper .0) (x .proper .1) (x .gives)
     where
-      by-change : (e : ℕ) → 0 < e → e < 32 → r ⊕ atPlace p e ≡ constant → anyBelow 31 (λ e. eqb (r ⊕ changeAt p (suc e)) constant) ≡ true
+      by-change : (e : ℕ) → 0 < e → e < 32 → r ⊕ changeAt p e ≡ constant → anyBelow 31 (λ e. eqb (r ⊕ changeAt p (suc e)) constant) ≡ true
       by-change zero some small gives = absurd (omega arith)
       by-change (suc e) some small gives =
           below-some (λ e. eqb (r ⊕ changeAt p (suc e)) constant) 31 e (omega arith)
-          (eq-eqb (r ⊕ changeAt p (suc e)) constant (ap (λ (x : ℕ). r ⊕ x) (same-change p (suc e)) ∙ gives))
+          (eq-eqb (r ⊕ changeAt p (suc e)) constant gives)
 
 -- two places below 1023 never both explain a residue
 pub one-place-explains : (constant r p q : ℕ) → p < 1023 → q < 1023 → explains constant r p ≡ true → explains constant r q ≡ true → p ≡ q

@@ -8,7 +8,7 @@ use borrow.Author.Tests.{lt-ltb, le-ltb}
 use Rattle.paper.specs.Charset.{symbol}
 use Rattle.paper.specs.Bits.{toBytes}
 use Rattle.answers.specs.Order.{_gives_, firstOf, NoneApplies}
-use Rattle.answers.specs.Reading.{prefixPart, payload, payloadSymbols, versionOf, programOf, roomSmall, readingRules, addressRules, readVerdict, readBytesVerdict, bufferAfter, addressVerdict, readAddressVerdict, programAfter}
+use Rattle.answers.specs.Reading.{prefixPart, payload, payloadSymbols, versionOf, programOf, roomSmall, readingRules, addressRules, readVerdict, readBytesVerdict, bufferAfter, addressVerdict, readAddressVerdict, programAfter, writtenInto}
 use Rattle.answers.specs.declared.Reading.the-variants as reading
 use Rattle.answers.specs.declared.Written.{Written}
 use Rattle.answers.specs.declared.Written.the-variants as written
@@ -18,7 +18,7 @@ use Rattle.answers.proofs.Orders.{accepted-only}
 use Rattle.answers.proofs.Exact.{reading-injective, reading-apart, address-injective, address-apart}
 use Rattle.checksum.specs.Parameters.{constantFor}
 use Rattle.checksum.specs.declared.Checksum.{Checksum}
-use Rattle.iter.specs.Writing.{writtenInto, Wrote}
+use Rattle.iter.specs.Writing.{Wrote}
 use Rattle.decode.specs.Symbols.{readSymbolsVerdict}
 use Rattle.decode.specs.Promises.{SymbolsRead, BytesRead, AddressRead}
 use Rattle.decode.proofs.Stages.{rest-decides, stage-refuses}

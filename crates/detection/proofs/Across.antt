@@ -8,10 +8,10 @@ use native.Mathlib.Omega.{arith}
 use lib.Dec.{T, lit≤}
 use lib.ListN.{length}
 use Rattle.laws.specs.Xor.{_⊕_}
+use Rattle.laws.specs.Lists.{weight}
 use Rattle.laws.proofs.Xor.{⊕-comm, xor-laws}
-use Rattle.paper.specs.Checksum.{polymod, bech32, bech32m}
-use Rattle.detection.specs.Patterns.{Symbols, weight, Near, Avoids, between}
-use Rattle.detection.specs.Places.{atPlace}
+use Rattle.paper.specs.Checksum.{polymod, bech32, bech32m, changeAt}
+use Rattle.detection.specs.Patterns.{Symbols, Near, Avoids, between}
 use Rattle.detection.specs.Roots.{value}
 use Rattle.detection.proofs.Powers.{power, log}
 use Rattle.detection.proofs.Orbit.{leap}
@@ -67,7 +67,7 @@ two d symbols within e z = double (first d symbols 1 e)
     both f g =
         no-two 978 729 318 between at-24 at-25 at-26 89 (lit≤ tt) two-computed (g .place) (f .place) (g .change) (f .change)
         (omega (arith, g .inside, f .rest-length)) (omega (arith, f .inside)) (g .proper) (f .proper)
-        (⊕-comm (atPlace (g .place) (g .change)) (atPlace (f .place) (f .change)) ∙ sym (two-changes d f g) ∙ z)
+        (⊕-comm (changeAt (g .place) (g .change)) (changeAt (f .place) (f .change)) ∙ sym (two-changes d f g) ∙ z)
 
     double : First d 1 → ⊥
     double f = both f (first (f .rest) (f .rest-symbols) 0 (f .rest-weight))
@@ -87,7 +87,7 @@ three d symbols within e z = triple (first d symbols 2 e)
         (h .place) (g .place) (f .place) (h .change) (g .change) (f .change)
         (omega (arith, h .inside, g .rest-length)) (omega (arith, g .inside, f .rest-length)) (omega (arith, f .inside))
         (h .proper) (g .proper) (f .proper)
-        (reversed (atPlace (h .place) (h .change)) (atPlace (g .place) (g .change)) (atPlace (f .place) (f .change)) ∙ sym (three-changes d f g h) ∙ z)
+        (reversed (changeAt (h .place) (h .change)) (changeAt (g .place) (g .change)) (changeAt (f .place) (f .change)) ∙ sym (three-changes d f g h) ∙ z)
 
     both : (f : First d 2) → First (f .rest) 1 → ⊥
     both f g = all f g (first (g .rest) (g .rest-symbols) 0 (g .rest-weight))

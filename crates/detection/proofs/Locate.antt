@@ -11,10 +11,10 @@ use lib.ListN.{length, getD, set}
 use Rattle.laws.specs.Xor.{_⊕_}
 use Rattle.laws.specs.Times.{times}
 use Rattle.laws.proofs.Xor.{⊕-lt, ⊕-eq, ⊕-cancel, xor-laws}
-use Rattle.paper.specs.Checksum.{step, polymod}
+use Rattle.paper.specs.Checksum.{step, polymod, changeAt}
 use Rattle.paper.proofs.Polymod.{push, step-push}
 use Rattle.detection.specs.Patterns.{Symbols, Change}
-use Rattle.detection.specs.Places.{atPlace, Explains}
+use Rattle.detection.specs.Places.{Explains}
 use Rattle.detection.specs.Roots.{value}
 use Rattle.detection.proofs.Distance.{symbol-at}
 use Rattle.detection.proofs.Places.{place-add, polymod-start, unpush, unpush-place, place-unpush}
@@ -31,31 +31,31 @@ changed-step c x y = step-push c y ∙ fill (push c) x y ∙ ap (λ (z : ℕ). z
     fill a b d = simp xor-laws
 
 pub polymod-set : (s : List ℕ) (i y c : ℕ) → i < length s
-    → polymod c (set s i y) ≡ polymod c s ⊕ atPlace (length s - suc i) (getD s i 0 ⊕ y)
+    → polymod c (set s i y) ≡ polymod c s ⊕ changeAt (length s - suc i) (getD s i 0 ⊕ y)
 unfolding polymod
 polymod-set [] i y c h = absurd (omega arith)
 polymod-set (x ∷ s) zero y c h =
     let p : suc (length s) - 1 ≡ length s = omega arith in
-    polymod-start s (step c y) ∙ ap (λ (z : ℕ). atPlace (length s) z ⊕ polymod 0 s) (changed-step c x y)
+    polymod-start s (step c y) ∙ ap (λ (z : ℕ). changeAt (length s) z ⊕ polymod 0 s) (changed-step c x y)
     ∙ ap (λ (z : ℕ). z ⊕ polymod 0 s) (place-add (length s) (step c x) (x ⊕ y))
-    ∙ last-two (atPlace (length s) (step c x)) (atPlace (length s) (x ⊕ y)) (polymod 0 s)
-    ∙ ap (λ (z : ℕ). z ⊕ atPlace (length s) (x ⊕ y)) (sym (polymod-start s (step c x)))
-    ∙ ap (λ (n : ℕ). polymod (step c x) s ⊕ atPlace n (x ⊕ y)) (sym p)
+    ∙ last-two (changeAt (length s) (step c x)) (changeAt (length s) (x ⊕ y)) (polymod 0 s)
+    ∙ ap (λ (z : ℕ). z ⊕ changeAt (length s) (x ⊕ y)) (sym (polymod-start s (step c x)))
+    ∙ ap (λ (n : ℕ). polymod (step c x) s ⊕ changeAt n (x ⊕ y)) (sym p)
   where
     last-two : (a b d : ℕ) → (a ⊕ b) ⊕ d ≡ (a ⊕ d) ⊕ b
     last-two a b d = simp xor-laws
 polymod-set (x ∷ s) (suc i) y c h =
     let p : suc (length s) - suc (suc i) ≡ length s - suc i = omega arith in
     polymod-set s i y (step c x) (le-of-suc-le-suc h)
-    ∙ ap (λ (n : ℕ). polymod (step c x) s ⊕ atPlace n (getD s i 0 ⊕ y)) (sym p)
+    ∙ ap (λ (n : ℕ). polymod (step c x) s ⊕ changeAt n (getD s i 0 ⊕ y)) (sym p)
 
 back-again : (a b : ℕ) → (a ⊕ b) ⊕ b ≡ a
 back-again a b = simp xor-laws
 
 -- ---- one place, and the changed one
 
-difference : (residue constant p : ℕ) (x : Explains residue constant p) → residue ⊕ constant ≡ atPlace p (x .change)
-difference residue constant p x = ap (λ (z : ℕ). residue ⊕ z) (sym (x .gives)) ∙ ⊕-cancel residue (atPlace p (x .change))
+difference : (residue constant p : ℕ) (x : Explains residue constant p) → residue ⊕ constant ≡ changeAt p (x .change)
+difference residue constant p x = ap (λ (z : ℕ). residue ⊕ z) (sym (x .gives)) ∙ ⊕-cancel residue (changeAt p (x .change))
 
 pub syndromes-of-explains : (residue constant p : ℕ) (x : Explains residue constant p) → Syndromes p (x .change) (residue ⊕ constant)
 syndromes-of-explains residue constant p x =
@@ -81,8 +81,8 @@ explains-change c s i y symbols h hy other = record {
   change = getD s i 0 ⊕ y;
   proper = (pos-of-ne-zero (λ z. other (sym (⊕-eq (getD s i 0) y z))), ⊕-lt 5 (getD s i 0) y (symbol-at s i symbols) hy);
   gives =
-      ap (λ (z : ℕ). z ⊕ atPlace (length s - suc i) (getD s i 0 ⊕ y)) (polymod-set s i y c h)
-      ∙ back-again (polymod c s) (atPlace (length s - suc i) (getD s i 0 ⊕ y));
+      ap (λ (z : ℕ). z ⊕ changeAt (length s - suc i) (getD s i 0 ⊕ y)) (polymod-set s i y c h)
+      ∙ back-again (polymod c s) (changeAt (length s - suc i) (getD s i 0 ⊕ y));
 }
 
 -- so after one change every place that explains is the changed one
@@ -96,7 +96,7 @@ pub changed-gives : (c constant : ℕ) (s : List ℕ) (i : ℕ) → i < length s
     → polymod c (set s i (getD s i 0 ⊕ x .change)) ≡ constant
 changed-gives c constant s i h x =
     polymod-set s i (getD s i 0 ⊕ x .change) c h
-    ∙ ap (λ (z : ℕ). polymod c s ⊕ atPlace (length s - suc i) z) (⊕-cancel (getD s i 0) (x .change)) ∙ x .gives
+    ∙ ap (λ (z : ℕ). polymod c s ⊕ changeAt (length s - suc i) z) (⊕-cancel (getD s i 0) (x .change)) ∙ x .gives
 
 -- ---- what a locator can compute
 
@@ -106,7 +106,7 @@ back-of-explains residue constant p x = (rw back (x .proper .0), rw back (x .pro
     back : times unpush p (residue ⊕ constant) ≡ x .change
     back = ap (times unpush p) (difference residue constant p x) ∙ unpush-place p (x .change) (omega (arith, x .proper))
 
-explains-by : (residue constant p e : ℕ) → Change e → residue ⊕ constant ≡ atPlace p e → Explains residue constant p
+explains-by : (residue constant p e : ℕ) → Change e → residue ⊕ constant ≡ changeAt p e → Explains residue constant p
 explains-by residue constant p e proper z = record {
   change = e;
   proper = proper;

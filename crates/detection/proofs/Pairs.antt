@@ -11,8 +11,8 @@ use Rattle.laws.specs.Xor.{_⊕_}
 use Rattle.laws.proofs.Xor.{⊕-lt}
 use Rattle.laws.proofs.Below.{below}
 use Rattle.laws.proofs.Additive.{times-none}
+use Rattle.paper.specs.Checksum.{changeAt}
 use Rattle.detection.specs.Patterns.{Change}
-use Rattle.detection.specs.Places.{atPlace}
 use Rattle.detection.specs.Roots.{turn, turns, value, Root}
 use Rattle.detection.proofs.Powers.{log}
 use Rattle.detection.proofs.Orbit.{turns-lt, next-power, leap, leap-turns}
@@ -50,7 +50,7 @@ module _ (t0 t1 t2 target : ℕ) (value-24 : value 24 target ≡ t0) (value-25 :
   h1 : t1 < 1024
   h1 = subst (λ (x : ℕ). x < 1024) value-25 (value-lt 25 target)
 
-  pub no-one : (n : ℕ) → T (none-turned t0 t1 n) → (p e : ℕ) → p < n → Change e → atPlace p e ≢ target
+  pub no-one : (n : ℕ) → T (none-turned t0 t1 n) → (p e : ℕ) → p < n → Change e → changeAt p e ≢ target
   no-one n test p e within proper comes-to =
       T-not (eqb (leap p t0) t1) (below (λ p. not (eqb (leap p t0) t1)) n test p within)
       (equal-test (leap p t0) t1 (leap-turns p t0 h0 ∙ ap (turns p) (sym value-24) ∙ sym (syndromes .at-25) ∙ value-25))
@@ -59,7 +59,7 @@ module _ (t0 t1 t2 target : ℕ) (value-24 : value 24 target ≡ t0) (value-25 :
       syndromes = syndromes-of-place p e target (proper .1) (sym comes-to)
 
   module _ (p q e f : ℕ) (order : p < q) (within : q < 96) (proper-e : Change e) (proper-f : Change f)
-      (comes-to : atPlace p e ⊕ atPlace q f ≡ target) where
+      (comes-to : changeAt p e ⊕ changeAt q f ≡ target) where
     x : ℕ
     x = turns (24 * p) e
 
@@ -72,7 +72,7 @@ module _ (t0 t1 t2 target : ℕ) (value-24 : value 24 target ≡ t0) (value-25 :
 
     sums : (k : ℕ) → Root k → turns (k * p) e ⊕ turns (k * q) f ≡ value k target
     sums k is-root =
-        sym (ap (value k) (sym comes-to) ∙ value-add k (atPlace p e) (atPlace q f)
+        sym (ap (value k) (sym comes-to) ∙ value-add k (changeAt p e) (changeAt q f)
         ∙ ap₂ (λ (a b : ℕ). a ⊕ b) (value-place k is-root p e (proper-e .1)) (value-place k is-root q f (proper-f .1)))
 
     sum-24 : x ⊕ y ≡ t0
@@ -114,7 +114,7 @@ module _ (t0 t1 t2 target : ℕ) (value-24 : value 24 target ≡ t0) (value-25 :
         (fits-of (t1 ⊕ leap q t0) (join p q) 0 p e proper-e left-lt (ap (turns (join p q)) (times-none turn (turns (24 * p) e)) ∙ first))
 
   pub no-two : (n : ℕ) → n ≤ 96 → T (none-paired t0 t1 t2 n) → (p q e f : ℕ) → p < q → q < n → Change e → Change f
-      → atPlace p e ⊕ atPlace q f ≢ target
+      → changeAt p e ⊕ changeAt q f ≢ target
   no-two n small test p q e f order within proper-e proper-f comes-to =
       T-not (pair-agrees (t1 ⊕ leap q t0) (t2 ⊕ leap q t1) p q)
       (below (λ p. not (pair-agrees (t1 ⊕ leap q t0) (t2 ⊕ leap q t1) p q)) q

@@ -10,9 +10,8 @@ use Rattle.laws.specs.Xor.{_⊕_, columns}
 use Rattle.laws.specs.Times.{times}
 use Rattle.laws.proofs.Xor.{⊕-lt, ⊕-zero, zero-⊕}
 use Rattle.laws.proofs.Additive.{Additive, add0, add-comp, add-sum, add-shr, times-plus, times-none, times-shift, times-add, times-zero, times-lt, columns-add, columns-lt, agree, basis}
-use Rattle.paper.specs.Checksum.{step, polymod}
+use Rattle.paper.specs.Checksum.{step, polymod, changeAt}
 use Rattle.paper.proofs.Polymod.{push, push-add, push-lt, step-push}
-use Rattle.detection.specs.Places.{atPlace}
 use Rattle.detection.proofs.Linear.{xors, linear}
 
 -- ---- a change at a place
@@ -29,29 +28,29 @@ polymod-zeros zero c = refl
 polymod-zeros (suc p) c =
     polymod-zeros p (step c 0) ∙ ap (times push p) (step-zero c) ∙ sym (times-shift push p c)
 
-pub place-times : (p e : ℕ) → atPlace p e ≡ times push p e
-unfolding atPlace polymod
+pub place-times : (p e : ℕ) → changeAt p e ≡ times push p e
+unfolding changeAt polymod
 place-times p e = polymod-zeros p (step 0 e) ∙ ap (times push p) (zero-step e)
 
-pub place-none : (e : ℕ) → atPlace 0 e ≡ e
+pub place-none : (e : ℕ) → changeAt 0 e ≡ e
 place-none e = place-times 0 e ∙ times-none push e
 
-pub place-suc : (p e : ℕ) → atPlace (suc p) e ≡ push (atPlace p e)
+pub place-suc : (p e : ℕ) → changeAt (suc p) e ≡ push (changeAt p e)
 unfolding times
 place-suc p e = place-times (suc p) e ∙ ap push (sym (place-times p e))
 
-pub place-plus : (p q e : ℕ) → atPlace (p + q) e ≡ atPlace p (atPlace q e)
+pub place-plus : (p q e : ℕ) → changeAt (p + q) e ≡ changeAt p (changeAt q e)
 place-plus p q e =
-    place-times (p + q) e ∙ times-plus push p q e ∙ ap (times push p) (sym (place-times q e)) ∙ sym (place-times p (atPlace q e))
+    place-times (p + q) e ∙ times-plus push p q e ∙ ap (times push p) (sym (place-times q e)) ∙ sym (place-times p (changeAt q e))
 
-pub place-add : (p : ℕ) → Additive (atPlace p)
+pub place-add : (p : ℕ) → Additive (changeAt p)
 place-add p a b =
     place-times p (a ⊕ b) ∙ times-add push push-add p a b ∙ sym (ap₂ (λ (x y : ℕ). x ⊕ y) (place-times p a) (place-times p b))
 
-pub place-zero : (p : ℕ) → atPlace p 0 ≡ 0
-place-zero p = add0 (atPlace p) (place-add p)
+pub place-zero : (p : ℕ) → changeAt p 0 ≡ 0
+place-zero p = add0 (changeAt p) (place-add p)
 
-pub place-lt : (p e : ℕ) → e < 2 ^ 30 → atPlace p e < 2 ^ 30
+pub place-lt : (p e : ℕ) → e < 2 ^ 30 → changeAt p e < 2 ^ 30
 place-lt p e h = rw (place-times p e) (times-lt push (2 ^ 30) push-lt p e h)
 
 -- ---- a list, place by place
@@ -62,7 +61,7 @@ xors-zeros [] = refl
 xors-zeros (v ∷ d) = ap₂ (λ (a : ℕ) (l : List ℕ). a ∷ l) (zero-⊕ v) (xors-zeros d)
 
 -- what was before a list counts as a change at the place before it
-pub polymod-start : (d : List ℕ) (c : ℕ) → polymod c d ≡ atPlace (length d) c ⊕ polymod 0 d
+pub polymod-start : (d : List ℕ) (c : ℕ) → polymod c d ≡ changeAt (length d) c ⊕ polymod 0 d
 polymod-start d c =
     sym (linear (replicate (length d) 0) d (length-replicate (length d) 0) c 0
     ∙ ap₂ polymod (⊕-zero c) (xors-zeros d))
@@ -77,7 +76,7 @@ polymod-change e d = ap (λ (x : ℕ). polymod x d) (zero-step e)
 pub polymod-zero : (d : List ℕ) → polymod 0 (0 ∷ d) ≡ polymod 0 d
 polymod-zero = polymod-change 0
 
-pub polymod-first : (e : ℕ) (d : List ℕ) → polymod 0 (e ∷ d) ≡ atPlace (length d) e ⊕ polymod 0 d
+pub polymod-first : (e : ℕ) (d : List ℕ) → polymod 0 (e ∷ d) ≡ changeAt (length d) e ⊕ polymod 0 d
 polymod-first e d = polymod-change e d ∙ polymod-start d e
 
 -- ---- a step taken back: the generator's constant term has an inverse
@@ -112,23 +111,23 @@ back-pushed = tt
 pub push-unpush : (r : ℕ) → r < 2 ^ 30 → push (unpush r) ≡ r
 push-unpush = basis (λ r. push (unpush r)) (λ r. r) (add-comp push unpush push-add unpush-add) (λ a b. refl) 30 back-pushed
 
-pub unpush-place : (p e : ℕ) → e < 2 ^ 30 → times unpush p (atPlace p e) ≡ e
+pub unpush-place : (p e : ℕ) → e < 2 ^ 30 → times unpush p (changeAt p e) ≡ e
 unfolding times
 unpush-place zero e h = place-none e
 unpush-place (suc p) e h =
-    ap (times unpush (suc p)) (place-suc p e) ∙ times-shift unpush p (push (atPlace p e))
-    ∙ ap (times unpush p) (unpush-push (atPlace p e) (place-lt p e h)) ∙ unpush-place p e h
+    ap (times unpush (suc p)) (place-suc p e) ∙ times-shift unpush p (push (changeAt p e))
+    ∙ ap (times unpush p) (unpush-push (changeAt p e) (place-lt p e h)) ∙ unpush-place p e h
 
-pub place-unpush : (p x : ℕ) → x < 2 ^ 30 → atPlace p (times unpush p x) ≡ x
+pub place-unpush : (p x : ℕ) → x < 2 ^ 30 → changeAt p (times unpush p x) ≡ x
 unfolding times
 place-unpush zero x h = place-none x
 place-unpush (suc p) x h =
-    ap (atPlace (suc p)) (times-shift unpush p x) ∙ place-suc p (times unpush p (unpush x))
+    ap (changeAt (suc p)) (times-shift unpush p x) ∙ place-suc p (times unpush p (unpush x))
     ∙ ap push (place-unpush p (unpush x) (unpush-lt x h)) ∙ push-unpush x h
 
 -- so nothing but zero comes to zero
 pub push-nonzero : (r : ℕ) → r < 2 ^ 30 → push r ≡ 0 → r ≡ 0
 push-nonzero r h e = sym (unpush-push r h) ∙ ap unpush e ∙ add0 unpush unpush-add
 
-pub place-nonzero : (p e : ℕ) → e < 2 ^ 30 → atPlace p e ≡ 0 → e ≡ 0
+pub place-nonzero : (p e : ℕ) → e < 2 ^ 30 → changeAt p e ≡ 0 → e ≡ 0
 place-nonzero p e h z = sym (unpush-place p e h) ∙ ap (times unpush p) z ∙ times-zero unpush unpush-add p

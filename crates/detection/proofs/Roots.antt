@@ -10,10 +10,9 @@ use lib.ListN.{length}
 use Rattle.laws.specs.Xor.{_⊕_}
 use Rattle.laws.proofs.Xor.{⊕-zero, zero-⊕, ⊕-assoc}
 use Rattle.laws.proofs.Additive.{times-plus, times-none}
-use Rattle.paper.specs.Checksum.{step, polymod}
+use Rattle.paper.specs.Checksum.{step, polymod, changeAt}
 use Rattle.paper.proofs.Polymod.{push, step-push, step-lt}
 use Rattle.detection.specs.Patterns.{Symbols}
-use Rattle.detection.specs.Places.{atPlace}
 use Rattle.detection.specs.Roots.{turn, turns, value, Root}
 use Rattle.detection.proofs.Places.{step-zero, place-none, place-suc, place-lt}
 use Rattle.detection.proofs.Orbit.{turns-add, turns-zero}
@@ -65,11 +64,11 @@ module _ (k : ℕ) (is-root : Root k) where
       value-polymod s symbols 0 (lit< tt)
       ∙ ap (λ (z : ℕ). z ⊕ powerSum k s) (ap (turns (k * length s)) (value-zero k) ∙ turns-zero (k * length s)) ∙ zero-⊕ (powerSum k s)
 
-  pub value-place : (p e : ℕ) → e < 32 → value k (atPlace p e) ≡ turns (k * p) e
+  pub value-place : (p e : ℕ) → e < 32 → value k (changeAt p e) ≡ turns (k * p) e
   value-place zero e h =
       ap (value k) (place-none e) ∙ value-symbol k e h ∙ sym (ap (λ (n : ℕ). turns n e) (mul-zero k) ∙ times-none turn e)
   value-place (suc p) e h =
-      ap (value k) (place-suc p e) ∙ value-push (atPlace p e) (place-lt p e (omega arith))
+      ap (value k) (place-suc p e) ∙ value-push (changeAt p e) (place-lt p e (omega arith))
       ∙ ap (turns k) (value-place p e h) ∙ sym (times-plus turn k (k * p) e)
       ∙ ap (λ (n : ℕ). turns n e) (add-comm k (k * p) ∙ sym (mul-suc k p))
 

@@ -10,8 +10,8 @@ use Rattle.laws.specs.Lists.{allBelow}
 use Rattle.laws.specs.Xor.{_⊕_}
 use Rattle.laws.proofs.Xor.{⊕-lt, ⊕-left-comm, xor-laws}
 use Rattle.laws.proofs.Below.{below}
+use Rattle.paper.specs.Checksum.{changeAt}
 use Rattle.detection.specs.Patterns.{Change}
-use Rattle.detection.specs.Places.{atPlace}
 use Rattle.detection.specs.Roots.{turns, value, Root}
 use Rattle.detection.proofs.Powers.{log}
 use Rattle.detection.proofs.Orbit.{turns-lt, next-power, leap, leap-turns}
@@ -72,7 +72,7 @@ module _ (t0 t1 t2 target : ℕ) (value-24 : value 24 target ≡ t0) (value-25 :
       (fits-of (remains t0 t1 t2 q r) u w p e proper (remains-lt t0 t1 t2 q r h0 h1 h2) x)
 
   -- with q and r gone
-  third : (p q r e f g : ℕ) → e < 32 → f < 32 → g < 32 → atPlace p e ⊕ (atPlace q f ⊕ atPlace r g) ≡ target
+  third : (p q r e f g : ℕ) → e < 32 → f < 32 → g < 32 → changeAt p e ⊕ (changeAt q f ⊕ changeAt r g) ≡ target
       → clears q p (clears r p (turns (24 * p) e)) ≡ remains t0 t1 t2 q r
   third p q r e f g he hf hg comes-to =
       alone p q r (turns (24 * p) e) (turns (24 * q) f) (turns (24 * r) g) t0 t1 t2 (sums 24 root-24 ∙ value-24)
@@ -87,12 +87,12 @@ module _ (t0 t1 t2 target : ℕ) (value-24 : value 24 target ≡ t0) (value-25 :
 
       sums : (k : ℕ) → Root k → turns (k * p) e ⊕ (turns (k * q) f ⊕ turns (k * r) g) ≡ value k target
       sums k is-root =
-          sym (ap (value k) (sym comes-to) ∙ value-add k (atPlace p e) (atPlace q f ⊕ atPlace r g)
-          ∙ ap (λ (x : ℕ). value k (atPlace p e) ⊕ x) (value-add k (atPlace q f) (atPlace r g))
+          sym (ap (value k) (sym comes-to) ∙ value-add k (changeAt p e) (changeAt q f ⊕ changeAt r g)
+          ∙ ap (λ (x : ℕ). value k (changeAt p e) ⊕ x) (value-add k (changeAt q f) (changeAt r g))
           ∙ same (value-place k is-root p e he) (value-place k is-root q f hf) (value-place k is-root r g hg))
 
   module _ (a b c e f g : ℕ) (lower : a < b) (upper : b < c) (within : c < 96) (proper-e : Change e) (proper-f : Change f) (proper-g : Change g)
-      (comes-to : atPlace a e ⊕ (atPlace b f ⊕ atPlace c g) ≡ target) where
+      (comes-to : changeAt a e ⊕ (changeAt b f ⊕ changeAt c g) ≡ target) where
     element : (p v : ℕ) → Change v → turns (24 * p) v < 1024
     element p v proper = turns-lt (24 * p) v (omega arith)
 
@@ -109,7 +109,7 @@ module _ (t0 t1 t2 target : ℕ) (value-24 : value 24 target ≡ t0) (value-25 :
         (sym (ap (clears a b) (clears-join b c (turns (24 * b) f) upper within (element b f proper-f))
         ∙ clears-swap a b (turns (join b c) (turns (24 * b) f))
         ∙ clears-join a b (turns (join b c) (turns (24 * b) f)) lower (omega arith) (turns-lt (join b c) (turns (24 * b) f) (element b f proper-f)))
-        ∙ third b a c f e g (proper-f .1) (proper-e .1) (proper-g .1) (⊕-left-comm (atPlace b f) (atPlace a e) (atPlace c g) ∙ comes-to))
+        ∙ third b a c f e g (proper-f .1) (proper-e .1) (proper-g .1) (⊕-left-comm (changeAt b f) (changeAt a e) (changeAt c g) ∙ comes-to))
 
     fits-c : T (fits (left t0 t1 t2 a b) (join a c) (join b c) c)
     fits-c =
@@ -117,7 +117,7 @@ module _ (t0 t1 t2 target : ℕ) (value-24 : value 24 target ≡ t0) (value-25 :
         (sym (ap (clears a c) (clears-swap b c (turns (24 * c) g) ∙ clears-join b c (turns (24 * c) g) upper within (element c g proper-g))
         ∙ clears-swap a c (turns (join b c) (turns (24 * c) g))
         ∙ clears-join a c (turns (join b c) (turns (24 * c) g)) (omega arith) within (turns-lt (join b c) (turns (24 * c) g) (element c g proper-g)))
-        ∙ third c a b g e f (proper-g .1) (proper-e .1) (proper-f .1) (last-first (atPlace a e) (atPlace b f) (atPlace c g) ∙ comes-to))
+        ∙ third c a b g e f (proper-g .1) (proper-e .1) (proper-f .1) (last-first (changeAt a e) (changeAt b f) (changeAt c g) ∙ comes-to))
       where
         last-first : (i j k : ℕ) → k ⊕ (i ⊕ j) ≡ i ⊕ (j ⊕ k)
         last-first i j k = simp xor-laws
@@ -130,7 +130,7 @@ module _ (t0 t1 t2 target : ℕ) (value-24 : value 24 target ≡ t0) (value-25 :
 
   -- the test refutes
   pub no-three : (n : ℕ) → n ≤ 96 → T (none-agree t0 t1 t2 n) → (a b c e f g : ℕ) → a < b → b < c → c < n → Change e → Change f → Change g
-      → atPlace a e ⊕ (atPlace b f ⊕ atPlace c g) ≢ target
+      → changeAt a e ⊕ (changeAt b f ⊕ changeAt c g) ≢ target
   no-three n small test a b c e f g lower upper within proper-e proper-f proper-g comes-to =
       T-not (agrees t0 t1 t2 (left t0 t1 t2 b c) a b c) (tested a lower)
       (all-fit a b c e f g lower upper (omega arith) proper-e proper-f proper-g comes-to)

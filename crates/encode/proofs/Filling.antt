@@ -14,7 +14,7 @@ use Rattle.laws.proofs.Front.{front, map-all}
 use Rattle.laws.proofs.Parts.{rest}
 use Rattle.paper.specs.Charset.{lower, letter}
 use Rattle.paper.specs.Checksum.{polymod, expand, sixSymbols, checksum}
-use Rattle.answers.specs.Reading.{roomSmall}
+use Rattle.answers.specs.Reading.{roomSmall, writtenInto}
 use Rattle.answers.specs.Writing.{writtenString}
 use Rattle.answers.specs.declared.Written.{Written}
 use Rattle.gf32.specs.Bytes.{character}
@@ -23,7 +23,6 @@ use Rattle.checksum.specs.declared.Checksum.{Checksum}
 use Rattle.checksum.specs.declared.Engine.{Engine}
 use Rattle.checksum.proofs.Written.{engine-writes}
 use Rattle.iter.proofs.Groups.{every-append}
-use Rattle.hrp.specs.Folding.{foldVerdict}
 use Rattle.hrp.specs.Promises.{Folded}
 use Rattle.encode.proofs.Lengths.{written-length, check-small}
 
@@ -89,7 +88,7 @@ characters-letters (v ∷ s) p = ap₂ _∷_ (ap letter (mod-eq-of-lt (p .0))) (
 -- the prefix in lower case where there is room for it
 pub folded-front : (prefix before : List ℕ) (r : Written) (after : List ℕ) → length prefix ≤ length before → Folded prefix before r after
     → after ≡ map lower prefix ++ drop (length prefix) before
-unfolding foldVerdict roomSmall
+unfolding writtenInto roomSmall
 folded-front prefix before r after h f =
     f .buffer ∙ rw (length-map prefix lower, le-ltb (length before) (length prefix) h)
 

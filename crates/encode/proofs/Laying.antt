@@ -11,13 +11,13 @@ use lib.Seq.{take-at, drop-at, drop-drop, length-take-le, take-suc-set, drop-set
 use Rattle.laws.specs.Lists.{Every}
 use Rattle.laws.proofs.Parts.{rest}
 use Rattle.paper.specs.Bits.{toSymbols}
-use Rattle.answers.specs.Reading.{roomSmall}
+use Rattle.answers.specs.Reading.{roomSmall, writtenInto}
 use Rattle.answers.specs.Writing.{writtenString, writtenAddress}
 use Rattle.answers.specs.declared.Written.{Written}
 use Rattle.checksum.specs.Parameters.{constantFor, checksumFor}
 use Rattle.checksum.specs.declared.Checksum.{Checksum}
 use Rattle.checksum.proofs.Constants.{constant-of-version}
-use Rattle.iter.specs.Writing.{writtenInto, Wrote}
+use Rattle.iter.specs.Writing.{Wrote}
 use Rattle.iter.proofs.Lengths.{symbols-below}
 use Rattle.encode.proofs.Filling.{tail-put}
 

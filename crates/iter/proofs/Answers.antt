@@ -8,8 +8,8 @@ use lib.ListN.{length, getD, drop, set}
 use Rattle.laws.proofs.Front.{front, front-more, front-all}
 use Rattle.paper.specs.Bits.{toBytes, toSymbols}
 use Rattle.answers.specs.declared.Written.the-variants.{Accepted, Refused}
-use Rattle.iter.specs.Writing.{writtenInto, Wrote}
-use Rattle.answers.specs.Reading.{roomSmall}
+use Rattle.iter.specs.Writing.{Wrote}
+use Rattle.answers.specs.Reading.{roomSmall, writtenInto}
 use Rattle.iter.specs.Steps.{symbolStep, byteStep}
 use Rattle.iter.specs.declared.SymbolStep.the-variants as symbol
 use Rattle.iter.specs.declared.ByteStep.the-variants as byte

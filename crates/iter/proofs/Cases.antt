@@ -7,11 +7,10 @@ use Rattle.laws.specs.Text.{bytes}
 use Rattle.paper.specs.Charset.{charset, symbol}
 use Rattle.paper.specs.Bits.{bitsOf, bits, spelled, groups, whole, leftover, toBytes, padding, toSymbols}
 use Rattle.answers.specs.Rules.{paddingLong, paddingNotZero, paddingVerdict}
-use Rattle.answers.specs.Reading.{roomSmall}
+use Rattle.answers.specs.Reading.{roomSmall, writtenInto}
 use Rattle.answers.specs.declared.Written.{Written}
 use Rattle.answers.specs.declared.Written.the-variants as written
 use Rattle.answers.specs.declared.Verdict.the-variants.{Accepted, Refused}
-use Rattle.iter.specs.Writing.{writtenInto}
 use Rattle.iter.specs.Promises.{SymbolsWritten, BytesWritten, CharactersWritten}
 
 unfoldable pub program : List ℕ

@@ -11,14 +11,14 @@ use lib.Dec.{eqb}
 use lib.ListN.{length}
 use borrow.Author.Tests.{eq-eqb, ne-eqb}
 use Rattle.laws.specs.Pick.{pick}
-use Rattle.laws.specs.Lists.{Every}
+use Rattle.laws.specs.Lists.{Every, weight}
 use Rattle.laws.specs.Xor.{_⊕_}
 use Rattle.paper.specs.Checksum.{step, polymod}
-use Rattle.answers.specs.Search.{nonzeros}
 use Rattle.search.specs.declared.Change.{Change}
 use Rattle.search.specs.Walk.{inFront}
 use Rattle.search.specs.Patterns.{changesOf, patternOf, Falling, symbolAt, described}
 use Rattle.detection.proofs.Places.{zero-step}
+use Rattle.detection.proofs.Distance.{weight-suc}
 use Rattle.search.proofs.Residue.{step-symbol}
 
 pub in-front : (c : Change) (cs : List Change) → inFront c (patternOf cs) ≡ patternOf (c ∷ cs)
@@ -86,18 +86,18 @@ described-symbols m zero cs f = tt
 described-symbols m (suc n) cs f = (symbol-lt m n cs f, described-symbols m n cs f)
 
 -- as many symbols are not zero as there are changes
-pub described-nonzeros : (m : ℕ) (cs : List Change) → Falling m cs → nonzeros (described m cs) ≡ length cs
-unfolding Falling described nonzeros symbolAt
-described-nonzeros zero [] f = refl
-described-nonzeros zero (c ∷ cs) f = absurd (let low = f .0 in omega (arith, low))
-described-nonzeros (suc m) [] f = described-nonzeros m [] tt
-described-nonzeros (suc m) (c ∷ cs) f = elim (eq-or-lt-of-le (let low = f .0 in let h : c .place ≤ m = omega (arith, low) in h)) [
+pub described-weight : (m : ℕ) (cs : List Change) → Falling m cs → weight (described m cs) ≡ length cs
+unfolding Falling described symbolAt
+described-weight zero [] f = refl
+described-weight zero (c ∷ cs) f = absurd (let low = f .0 in omega (arith, low))
+described-weight (suc m) [] f = described-weight m [] tt
+described-weight (suc m) (c ∷ cs) f = elim (eq-or-lt-of-le (let low = f .0 in let h : c .place ≤ m = omega (arith, low) in h)) [
   | inl e ↦
-      rw (eq-eqb (c .place) m e, ne-eqb (c .symbol) 0 (λ z. let low = f .1 in omega (arith, z, low)), described-above m c cs (omega (arith, e)))
-      (ap suc (described-nonzeros m cs (subst (λ (i : ℕ). Falling i cs) e (f .3))))
+      rw (eq-eqb (c .place) m e, described-above m c cs (omega (arith, e)), weight-suc (c .symbol) (described m cs) (λ z. let low = f .1 in omega (arith, z, low)))
+      (ap suc (described-weight m cs (subst (λ (i : ℕ). Falling i cs) e (f .3))))
   | inr l ↦
       rw (ne-eqb (c .place) m (λ e. omega (arith, e, l)), symbol-above (c .place) m cs (f .3) (omega (arith, l)))
-      (described-nonzeros m (c ∷ cs) (l, f .1, f .2, f .3))
+      (described-weight m (c ∷ cs) (l, f .1, f .2, f .3))
 ]
 
 -- ---- four parts hold four changes

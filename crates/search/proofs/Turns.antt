@@ -10,9 +10,9 @@ use types.Run.{OneOf}
 use denote.Enum.Declared.{tagOf}
 use Rattle.search.proofs.Found.{the-type}
 use Rattle.laws.specs.Xor.{_⊕_}
+use Rattle.laws.specs.Lists.{weight}
 use Rattle.laws.proofs.Xor.{⊕-self}
 use Rattle.paper.specs.Checksum.{step, polymod}
-use Rattle.detection.specs.Patterns.{weight}
 use Rattle.search.specs.declared.Change.{Change}
 use Rattle.search.specs.declared.Pattern.{Pattern}
 use Rattle.search.specs.declared.Found.{Found}

@@ -50,7 +50,7 @@ use denote.Triple.Clauses.{ensured, lasts}
 use denote.Triple.Walked.{says, Stays, stay-none-slice, stay-slice, walkOf, goes-none-slice, goes-slice, Walks, ends-at, walked, walk-meets}
 use denote.Exit.{yes}
 use Rattle.laws.proofs.Front.{front, front-length, front-all, in-place}
-use Rattle.answers.specs.Batch.{judged, batchVerdict}
+use Rattle.answers.specs.Batch.{judged, batchVerdict, countVerdict}
 use Rattle.batch.specs.Promises.{BatchJudged}
 use Rattle.answers.specs.declared.Entry.{Entry}
 use Rattle.answers.proofs.Entry as E
@@ -164,11 +164,11 @@ module _ {M : Type 1} (𝓤 : URA M) (H : Heap 𝓤) (A : Atoms 𝓤) (W : Given
 
   -- the two ways out
   over-32 : 32 < length ys → BatchJudged tx ys 19 ys
-  unfolding batchVerdict
+  unfolding batchVerdict countVerdict
   over-32 h = record { number = rw (lt-ltb 32 (length ys) h); entries = rw (lt-ltb 32 (length ys) h) }
 
   all-judged : (zs : List Entry) → length ys ≤ 32 → zs ≡ map (judged tx) ys → BatchJudged tx ys 0 zs
-  unfolding batchVerdict
+  unfolding batchVerdict countVerdict
   all-judged zs h e = record { number = rw (le-ltb 32 (length ys) h); entries = rw (le-ltb 32 (length ys) h) e }
 
   abbrev to-judged : Entry → Val → Callee 𝓤 H A mem run .Ghost
