@@ -20,10 +20,10 @@ use Rattle.answers.proofs.Orders.{givenAt, exactly, exactly-twice}
 use Rattle.answers.proofs.Exact.{address-apart, address-injective, reading-injective, reading-apart}
 use Rattle.answers.proofs.Rooms.{written-apart, written-injective}
 
-verdict-apart : (k : ℕ) → verdict.Refused k ≡ verdict.Accepted → ⊥
+pub verdict-apart : (k : ℕ) → verdict.Refused k ≡ verdict.Accepted → ⊥
 verdict-apart k e = let z : _≡_ {A = ℕ} 0 1 = cc in omega arith
 
-verdict-injective : (m n : ℕ) → verdict.Refused m ≡ verdict.Refused n → m ≡ n
+pub verdict-injective : (m n : ℕ) → verdict.Refused m ≡ verdict.Refused n → m ≡ n
 verdict-injective m n e = cc
 
 -- ---- generic reading

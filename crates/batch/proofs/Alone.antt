@@ -8,6 +8,7 @@ use native.Mathlib.Omega.{arith}
 use lib.ListN.{length, take, drop, getD, replicate, length-map}
 use lib.Seq.{length-take-le, take-at, drop-at}
 use Rattle.laws.specs.Text.{bytes}
+use Rattle.laws.proofs.Front.{getD-map}
 use Rattle.answers.specs.Numbers.{numberOfVerdict}
 use Rattle.answers.specs.Batch.{entryVerdict, judged, batchVerdict, entriesAfter, countVerdict}
 use Rattle.answers.specs.declared.Verdict.{Verdict}
@@ -26,12 +27,6 @@ few-accepted : (before : List Entry) → length before ≤ 32 → batchVerdict b
 unfolding batchVerdict
 few-accepted before h = count-accepted (length before) h
 
--- the element at i of a mapped list
-map-at : (z : Entry) (f : Entry → Entry) (l : List Entry) (i : ℕ) → i < length l → getD (map f l) i z ≡ f (getD l i z)
-map-at z f [] i h = absurd (not-suc-le-zero h)
-map-at z f (x ∷ l) zero h = refl
-map-at z f (x ∷ l) (suc i) h = map-at z f l i (le-of-suc-le-suc h)
-
 module _ (buffer : List ℕ) (before : List Entry) (r : ℕ) (after : List Entry) (is : BatchJudged buffer before r after) (few : length before ≤ 32) where
   pub lent-accepted : r ≡ 0
   lent-accepted = is .number ∙ ap numberOfVerdict (few-accepted before few)
@@ -40,7 +35,7 @@ module _ (buffer : List ℕ) (before : List Entry) (r : ℕ) (after : List Entry
   lent-all = is .entries ∙ ap (λ v. entriesAfter v buffer before) (few-accepted before few)
 
   pub lent-alone : (i : ℕ) → i < length before → getD after i none ≡ judged buffer (getD before i none)
-  lent-alone i h = ap (λ l. getD l i none) lent-all ∙ map-at none (judged buffer) before i h
+  lent-alone i h = ap (λ l. getD l i none) lent-all ∙ getD-map none (judged buffer) before i h
 
 -- ---- the list by value
 

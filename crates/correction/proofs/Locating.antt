@@ -2,7 +2,6 @@
 use mathlib.Core.Path.{_≡_, sym, ap, ap₂, _∙_}
 use mathlib.Core.List.{List, map}
 use Prim.Native.Nat.{ℕ, _^_, _<_}
-use lib.Dec.{lit<}
 use borrow.Author.Tests.{eq-eqb, ne-eqb, not-false}
 use Rattle.laws.specs.Lists.{all}
 use Rattle.paper.specs.Charset.{isSymbol, symbol}
@@ -17,18 +16,11 @@ use Rattle.answers.specs.declared.Located.{Located}
 use Rattle.answers.specs.declared.Located.the-variants as located
 use Rattle.answers.specs.declared.Verdict.the-variants as verdict
 use Rattle.answers.proofs.Orders.{nowhere}
-use Rattle.checksum.specs.Parameters.{constantFor}
-use Rattle.checksum.specs.declared.Checksum.{Checksum}
-use Rattle.checksum.specs.declared.Checksum.the-variants.{Bech32, Bech32m}
 use Rattle.decode.specs.Splitting.{partsOf, splitVerdict, prefixIn, dataIn, checkIn}
 use Rattle.decode.specs.declared.Parts.{Parts}
 use Rattle.decode.specs.declared.Parted.the-variants as parted
 use Rattle.decode.proofs.Own.{parted-apart, parted-injective, split-rules, split-prefix, split-data}
 use Rattle.decode.proofs.Generic.{read-split-refused, read-check-refused, read-accepted}
-
-pub constant-lt : (checksum : Checksum) → constantFor checksum < 2 ^ 30
-constant-lt Bech32 = lit< tt
-constant-lt Bech32m = lit< tt
 
 module _ (constant : ℕ) (s : List ℕ) where
   place : Located

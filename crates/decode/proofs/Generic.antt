@@ -5,7 +5,6 @@ use mathlib.Core.List.{List, [], _∷_}
 use Prim.Native.Nat.{ℕ, _+_, _-_, _≤_}
 use native.Mathlib.Omega.{arith}
 use lib.ListN.{length, take, drop}
-use lib.Seq.{length-take-le}
 use borrow.Author.Tests.{ltb-false}
 use Rattle.answers.specs.Order.{Rule, _gives_, firstOf, NoneApplies}
 use Rattle.answers.specs.Reading.{stringRules, dataPart, prefixPart, payload, longerThan, dataShort, checksumWrong, separatorMissing, readingRules, readVerdict, partOf}
@@ -13,18 +12,13 @@ use Rattle.answers.specs.declared.Reading.{Reading}
 use Rattle.answers.specs.declared.Reading.the-variants as reading
 use Rattle.answers.specs.declared.Verdict.the-variants as verdict
 use Rattle.answers.proofs.Orders.{accepted-only}
-use Rattle.answers.proofs.Exact.{reading-injective, reading-apart}
+use Rattle.answers.proofs.Exact.{reading-injective, reading-apart, payload-length}
+use Rattle.answers.proofs.Refusals.{verdict-apart, verdict-injective}
 use Rattle.decode.specs.Splitting.{partsOf, splitVerdict, checkIn}
 use Rattle.decode.specs.declared.Parts.{Parts}
 use Rattle.decode.specs.declared.Parted.the-variants as parted
 use Rattle.decode.proofs.Stages.{rest-decides, stage-refuses}
 use Rattle.decode.proofs.Own.{parted-apart, parted-injective, split-rules, split-parts, split-check, own-length, own-front, own-back}
-
-pub verdict-apart : (n : ℕ) → verdict.Refused n ≡ verdict.Accepted → ⊥
-verdict-apart n e = let z : _≡_ {A = ℕ} 0 1 = cc in omega arith
-
-pub verdict-injective : (m n : ℕ) → verdict.Refused m ≡ verdict.Refused n → m ≡ n
-verdict-injective m n e = cc
 
 module _ (constant : ℕ) (s : List ℕ) where
   -- the second stage's rules
@@ -58,18 +52,14 @@ module _ (constant : ℕ) (s : List ℕ) where
       read-enough = rw (split-parts s p split) (ltb-false (length (dataPart s)) 6 (none .1 .0))
 
       pub read-accepted : reading.Accepted (p .prefix) (p .symbols - 6) ≡ readVerdict constant s
-      unfolding partsOf payload
+      unfolding partsOf
       read-accepted =
           ap (λ (q : Parts). reading.Accepted (q .prefix) (q .symbols - 6)) (split-parts s p split)
-          ∙ ap (reading.Accepted (length (prefixPart s))) (sym (length-take-le (length (dataPart s) - 6) (dataPart s) (omega arith)))
+          ∙ ap (reading.Accepted (length (prefixPart s))) (sym (payload-length s))
           ∙ rest-decides reading.Refused sumRules [] (reading.Accepted (length (prefixPart s)) (length (payload s))) none
           ∙ rest
 
 -- ---- what an accepted reading says of the string
-
-pub payload-length : (s : List ℕ) → length (payload s) ≡ length (dataPart s) - 6
-unfolding payload
-payload-length s = length-take-le (length (dataPart s) - 6) (dataPart s) (omega arith)
 
 module _ (constant : ℕ) (s : List ℕ) (m n : ℕ) (read : reading.Accepted m n ≡ readVerdict constant s) where
   accepted : NoneApplies (readingRules constant s) × (reading.Accepted (length (prefixPart s)) (length (payload s)) ≡ reading.Accepted m n)

@@ -16,9 +16,9 @@ use Rattle.paper.specs.Bits.{toBytes, padding}
 use Rattle.answers.specs.Rules.{paddingLong}
 use Rattle.answers.specs.Reading.{dataPart, prefixPart, payload, payloadSymbols, versionOf, programSymbols, programOf, addressVerdict, separatorMissing, payloadMissing}
 use Rattle.answers.specs.declared.Address.the-variants as address
+use Rattle.answers.proofs.Exact.{payload-length}
 use Rattle.iter.proofs.Lengths.{bytes-length, padding-length}
 use Rattle.decode.proofs.Own.{own-length, own-back}
-use Rattle.decode.proofs.Generic.{payload-length}
 use Rattle.decode.proofs.Rooms.{address-rules, address-version, address-length}
 
 -- one place further on, of a part that ends where it did

@@ -16,6 +16,7 @@ use Rattle.answers.specs.declared.Address.{Address}
 use Rattle.answers.specs.declared.Address.the-variants as address
 use Rattle.answers.specs.declared.Verdict.the-variants as verdict
 use Rattle.answers.proofs.Orders.{accepted-only}
+use Rattle.answers.proofs.Refusals.{verdict-apart, verdict-injective}
 use Rattle.checksum.specs.Parameters.{constantFor, checksumFor}
 use Rattle.checksum.specs.declared.Checksum.{Checksum}
 use Rattle.checksum.proofs.Constants.{constant-of-version}
@@ -26,7 +27,6 @@ use Rattle.decode.specs.declared.Parted.the-variants as parted
 use Rattle.decode.specs.declared.Version.the-variants as version
 use Rattle.decode.proofs.Stages.{rest-decides, stage-refuses}
 use Rattle.decode.proofs.Own.{parted-apart, parted-injective, split-rules, split-payload, split-program, split-version, split-check}
-use Rattle.decode.proofs.Generic.{verdict-apart, verdict-injective}
 
 version-apart : (v n : ℕ) → version.Refused n ≡ version.Known v → ⊥
 version-apart v n e = let z : _≡_ {A = ℕ} 0 1 = cc in omega arith

@@ -4,20 +4,17 @@ use mathlib.Core.Path.{_≡_, refl, sym, ap, ap₂, _∙_}
 use mathlib.Core.List.{List, [], _∷_}
 use Prim.Native.Nat.{ℕ, zero, suc, _+_, _/_, _^_, _<_}
 use native.Mathlib.Omega.{arith}
-use lib.Dec.{T, lit<}
+use lib.Dec.{T}
 use lib.ListN.{length, replicate, length-replicate}
 use Rattle.laws.specs.Xor.{_⊕_, columns}
 use Rattle.laws.specs.Times.{times}
-use Rattle.laws.proofs.Xor.{⊕-lt, ⊕-zero, zero-⊕}
-use Rattle.laws.proofs.Additive.{Additive, add0, add-comp, add-sum, add-shr, times-plus, times-none, times-shift, times-add, times-zero, times-lt, columns-add, columns-lt, agree, basis}
+use Rattle.laws.proofs.Xor.{⊕-zero, zero-⊕}
+use Rattle.laws.proofs.Additive.{Additive, add0, add-comp, add-sum, add-shr, times-plus, times-none, times-shift, times-add, times-zero, times-lt, columns-add, agree, basis}
 use Rattle.paper.specs.Checksum.{step, polymod, changeAt}
-use Rattle.paper.proofs.Polymod.{push, push-add, push-lt, step-push}
+use Rattle.paper.proofs.Polymod.{push, push-add, push-lt, step-push, step-zero}
 use Rattle.detection.proofs.Linear.{xors, linear}
 
 -- ---- a change at a place
-
-pub step-zero : (c : ℕ) → step c 0 ≡ push c
-step-zero c = step-push c 0 ∙ ⊕-zero (push c)
 
 pub zero-step : (v : ℕ) → step 0 v ≡ v
 zero-step v = step-push 0 v ∙ ap (λ (z : ℕ). z ⊕ v) (add0 push push-add) ∙ zero-⊕ v
@@ -46,9 +43,6 @@ place-plus p q e =
 pub place-add : (p : ℕ) → Additive (changeAt p)
 place-add p a b =
     place-times p (a ⊕ b) ∙ times-add push push-add p a b ∙ sym (ap₂ (λ (x y : ℕ). x ⊕ y) (place-times p a) (place-times p b))
-
-pub place-zero : (p : ℕ) → changeAt p 0 ≡ 0
-place-zero p = add0 (changeAt p) (place-add p)
 
 pub place-lt : (p e : ℕ) → e < 2 ^ 30 → changeAt p e < 2 ^ 30
 place-lt p e h = rw (place-times p e) (times-lt push (2 ^ 30) push-lt p e h)
@@ -91,12 +85,6 @@ pub unpush-add : Additive unpush
 unfolding unpush
 unpush-add = add-sum (λ r. r / 2 ^ 5) (columns inverses) (add-shr 5) (columns-add inverses)
 
-pub unpush-lt : (r : ℕ) → r < 2 ^ 30 → unpush r < 2 ^ 30
-unfolding unpush
-unpush-lt r h =
-    ⊕-lt 30 (r / 2 ^ 5) (columns inverses r) (omega arith)
-    (columns-lt 30 inverses (lit< tt, (lit< tt, (lit< tt, (lit< tt, (lit< tt, tt))))) r)
-
 pushed-back : T (agree (λ r. unpush (push r)) (λ r. r) 30)
 unfolding unpush push columns _⊕_
 pushed-back = tt
@@ -104,26 +92,12 @@ pushed-back = tt
 pub unpush-push : (r : ℕ) → r < 2 ^ 30 → unpush (push r) ≡ r
 unpush-push = basis (λ r. unpush (push r)) (λ r. r) (add-comp unpush push unpush-add push-add) (λ a b. refl) 30 pushed-back
 
-back-pushed : T (agree (λ r. push (unpush r)) (λ r. r) 30)
-unfolding unpush push columns _⊕_
-back-pushed = tt
-
-pub push-unpush : (r : ℕ) → r < 2 ^ 30 → push (unpush r) ≡ r
-push-unpush = basis (λ r. push (unpush r)) (λ r. r) (add-comp push unpush push-add unpush-add) (λ a b. refl) 30 back-pushed
-
 pub unpush-place : (p e : ℕ) → e < 2 ^ 30 → times unpush p (changeAt p e) ≡ e
 unfolding times
 unpush-place zero e h = place-none e
 unpush-place (suc p) e h =
     ap (times unpush (suc p)) (place-suc p e) ∙ times-shift unpush p (push (changeAt p e))
     ∙ ap (times unpush p) (unpush-push (changeAt p e) (place-lt p e h)) ∙ unpush-place p e h
-
-pub place-unpush : (p x : ℕ) → x < 2 ^ 30 → changeAt p (times unpush p x) ≡ x
-unfolding times
-place-unpush zero x h = place-none x
-place-unpush (suc p) x h =
-    ap (changeAt (suc p)) (times-shift unpush p x) ∙ place-suc p (times unpush p (unpush x))
-    ∙ ap push (place-unpush p (unpush x) (unpush-lt x h)) ∙ push-unpush x h
 
 -- so nothing but zero comes to zero
 pub push-nonzero : (r : ℕ) → r < 2 ^ 30 → push r ≡ 0 → r ≡ 0

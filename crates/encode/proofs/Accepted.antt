@@ -20,7 +20,8 @@ use Rattle.answers.specs.declared.Written.the-variants.{Accepted, Refused}
 use Rattle.answers.proofs.Rooms.{written-apart}
 use Rattle.hrp.specs.Prefix.{Legal}
 use Rattle.hrp.proofs.Prefix.{prefix-accepted}
-use Rattle.segwit.proofs.Rules.{LegalLength, version-accepted, length-accepted}
+use Rattle.segwit.specs.Lengths.{LegalLength}
+use Rattle.segwit.proofs.Rules.{version-accepted, length-accepted}
 use Rattle.encode.specs.Sizes.{sizeVerdict}
 use Rattle.encode.proofs.Large.{all-small, none-large}
 use Rattle.encode.proofs.Orders.{followed, symbols-order, address-order}

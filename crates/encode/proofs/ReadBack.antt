@@ -26,7 +26,7 @@ use Rattle.checksum.proofs.Written.{checksum-only}
 use Rattle.hrp.proofs.Case.{folded-twice, folded-not-upper}
 use Rattle.hrp.specs.Prefix.{Legal}
 use Rattle.hrp.proofs.Prefix.{folded-legal}
-use Rattle.segwit.proofs.Rules.{LegalLength}
+use Rattle.segwit.specs.Lengths.{LegalLength}
 use Rattle.iter.proofs.Groups.{every-append}
 use Rattle.iter.proofs.Lengths.{symbols-below}
 use Rattle.iter.proofs.Round.{bytes-round, written-padding-short, written-padding-zero}

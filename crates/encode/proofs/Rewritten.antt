@@ -5,7 +5,7 @@ use mathlib.Core.Bool.{Bool, true, false, true≢false, not, _&&_, _||_}
 use mathlib.Core.List.{List, [], _∷_, _++_, map, map-append}
 use Prim.Native.Nat.{ℕ, _+_, _-_, _^_, _≤_, _<_}
 use native.Mathlib.Omega.{arith}
-use borrow.Author.Tests.{le-ltb, eq-eqb}
+use borrow.Author.Tests.{le-ltb}
 use lib.Dec.{eqb}
 use lib.ListN.{length, take, drop, length-append, length-map, length-drop, take-append-drop}
 use lib.Seq.{take-at, length-take-le}
@@ -21,7 +21,7 @@ use Rattle.answers.specs.Writing.{writtenString, writtenAddress, writeVerdict, 
 use Rattle.answers.specs.declared.Reading.the-variants as reading
 use Rattle.answers.specs.declared.Address.the-variants as address
 use Rattle.answers.specs.declared.Written.the-variants as written
-use Rattle.answers.proofs.Exact.{valid-data, valid-prefix, valid-version, valid-program, reads-exactly, address-exactly}
+use Rattle.answers.proofs.Exact.{valid-data, valid-prefix, valid-version, valid-program, reads-exactly, address-exactly, bit-zero}
 use Rattle.checksum.proofs.Written.{checksum-only}
 use Rattle.hrp.specs.Prefix.{Legal}
 use Rattle.iter.proofs.Groups.{every-take, every-drop}
@@ -89,9 +89,6 @@ rewritten-is-lower constant s m n k e =
     ∙ valid-again constant 1023 s (r .prefix) (r .part) k (r .valid)
 
 -- ---- addresses
-
-bit-zero : (b : ℕ) → b ≡ 0 → not (eqb b 0) ≡ false
-bit-zero b e = rw (eq-eqb b 0 e)
 
 -- the program's symbols are those of the program's bytes
 module _ (s : List ℕ) (v : ℕ) (program : List ℕ) (a : ValidAddress s v program) where

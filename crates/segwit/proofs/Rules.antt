@@ -10,12 +10,8 @@ use borrow.Author.Tests.{lt-ltb, le-ltb, eq-eqb, ne-eqb}
 use Rattle.laws.proofs.Bools.{and-false, or-true}
 use Rattle.answers.specs.Rules.{versionVerdict, lengthVerdict}
 use Rattle.answers.specs.declared.Verdict.the-variants.{Accepted, Refused}
-
-apart : (n : ℕ) → Refused n ≡ Accepted → ⊥
-apart n e = let z : _≡_ {A = ℕ} 0 1 = cc in omega arith
-
-number : (m n : ℕ) → Refused m ≡ Refused n → m ≡ n
-number m n e = cc
+use Rattle.answers.proofs.Refusals.{verdict-apart, verdict-injective}
+use Rattle.segwit.specs.Lengths.{LegalLength, LengthRefusal, outside, not-for-version-0}
 
 -- ---- the version
 
@@ -32,26 +28,16 @@ version-accepted v = (by (decLe v 16), version-known v)
   where
     by : Dec (v ≤ 16) → versionVerdict v ≡ Accepted → v ≤ 16
     by (yes h) e = h
-    by (no h) e = absurd (apart 12 (sym (version-unknown v (omega (arith, h))) ∙ e))
+    by (no h) e = absurd (verdict-apart 12 (sym (version-unknown v (omega (arith, h))) ∙ e))
 
 pub version-refused : (v n : ℕ) → versionVerdict v ≡ Refused n ↔ (16 < v) × (n ≡ 12)
 version-refused v n = (by (decLe v 16), λ h. version-unknown v (h .0) ∙ rw (h .1))
   where
     by : Dec (v ≤ 16) → versionVerdict v ≡ Refused n → (16 < v) × (n ≡ 12)
-    by (yes h) e = absurd (apart n (sym e ∙ version-known v h))
-    by (no h) e = (omega (arith, h), number n 12 (sym e ∙ version-unknown v (omega (arith, h))))
+    by (yes h) e = absurd (verdict-apart n (sym e ∙ version-known v h))
+    by (no h) e = (omega (arith, h), verdict-injective n 12 (sym e ∙ version-unknown v (omega (arith, h))))
 
 -- ---- the program's length
-
--- BIP-173, "Segwit address format": what a program's length must be; the fields are those of paper's ValidAddress
-pub record LegalLength (v n : ℕ) : Type 0 where
-  pub size : (2 ≤ n) × (n ≤ 40)
-  pub size-of-version-0 : v ≡ 0 → (n ≡ 20) ⊎ (n ≡ 32)
-
--- document 01, answers 15 and 16: what each refusal says
-pub data LengthRefusal (v n : ℕ) : ℕ → Type 0 where
-  outside : (n < 2) ⊎ (40 < n) → LengthRefusal v n 15
-  not-for-version-0 : 2 ≤ n → n ≤ 40 → v ≡ 0 → (n ≡ 20 → ⊥) → (n ≡ 32 → ⊥) → LengthRefusal v n 16
 
 module _ (v n : ℕ) where
   pub too-short : n < 2 → lengthVerdict v n ≡ Refused 15
@@ -112,11 +98,11 @@ length-accepted v n = (by (outcome v n), legal-length v n)
   where
     by : Outcome v n → lengthVerdict v n ≡ Accepted → LegalLength v n
     by (accepted t) e = t
-    by (refused k t) e = absurd (apart k (sym (refused-length v n k t) ∙ e))
+    by (refused k t) e = absurd (verdict-apart k (sym (refused-length v n k t) ∙ e))
 
 pub length-refused : (v n k : ℕ) → lengthVerdict v n ≡ Refused k ↔ LengthRefusal v n k
 length-refused v n k = (by (outcome v n), refused-length v n k)
   where
     by : Outcome v n → lengthVerdict v n ≡ Refused k → LengthRefusal v n k
-    by (accepted t) e = absurd (apart k (sym e ∙ legal-length v n t))
-    by (refused m t) e = subst (LengthRefusal v n) (number m k (sym (refused-length v n m t) ∙ e)) t
+    by (accepted t) e = absurd (verdict-apart k (sym e ∙ legal-length v n t))
+    by (refused m t) e = subst (LengthRefusal v n) (verdict-injective m k (sym (refused-length v n m t) ∙ e)) t

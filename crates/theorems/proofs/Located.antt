@@ -4,7 +4,6 @@ use mathlib.Core.Logic.{_≢_, _↔_}
 use mathlib.Core.Bool.{Bool, true, false}
 use mathlib.Core.List.{List, [], _∷_, _++_, map}
 use Prim.Native.Nat.{ℕ, zero, suc, _-_, _≤_, _<_}
-use native.Mathlib.Nat.{le-of-suc-le-suc, not-suc-le-zero}
 use native.Mathlib.Omega.{arith}
 use lib.Dec.{eqb}
 use lib.ListN.{length, getD, set, length-append, length-map, length-set}
@@ -13,6 +12,7 @@ use borrow.Author.Tests.{eqb-true, ltb-true}
 use Rattle.laws.specs.Pick.{pick}
 use Rattle.laws.specs.Lists.{all}
 use Rattle.laws.proofs.Bools.{and-first, and-second}
+use Rattle.laws.proofs.Front.{getD-map}
 use Rattle.paper.specs.Charset.{isSymbol, symbol, lower}
 use Rattle.paper.specs.Checksum.{polymod, expand, residue}
 use Rattle.paper.proofs.Symbols.{symbols-of}
@@ -83,11 +83,6 @@ all-set q [] i y e h = refl
 all-set q (x ∷ l) zero y e h = rw h (and-second (q x) (all q l) e)
 all-set q (x ∷ l) (suc i) y e h = rw (and-first (q x) (all q l) e) (all-set q l i y (and-second (q x) (all q l) e) h)
 
-getD-map : (l : List ℕ) (i : ℕ) → i < length l → getD (map symbol l) i 0 ≡ symbol (getD l i 0)
-getD-map [] i h = absurd (not-suc-le-zero h)
-getD-map (x ∷ l) zero h = refl
-getD-map (x ∷ l) (suc i) h = getD-map l i (le-of-suc-le-suc h)
-
 module _ {p : ℕ} {s t : List ℕ} (c : ChangedAt p s t) where
   others : List ℕ
   others = set (map symbol (c .part)) (c .index) (symbol (c .character))
@@ -100,7 +95,7 @@ module _ {p : ℕ} {s t : List ℕ} (c : ChangedAt p s t) where
   symbol-below = ltb-true (symbol (c .character)) 32 (c .still-symbol)
 
   other-symbol : symbol (c .character) ≢ getD (map symbol (c .part)) (c .index) 0
-  other-symbol e = c .other (e ∙ getD-map (c .part) (c .index) (c .inside))
+  other-symbol e = c .other (e ∙ getD-map 0 symbol (c .part) (c .index) (c .inside))
 
   differs : (n : ℕ) → dist (map symbol (c .part)) others ≡ n → 1 ≤ n
   unfolding others

@@ -3,8 +3,9 @@ use mathlib.Core.Path.{sym, ap, _∙_}
 use Prim.Native.Nat.{ℕ}
 use Rattle.answers.specs.Locator.{placeVerdict}
 use Rattle.checksum.specs.Parameters.{constantFor}
-use Rattle.correction.proofs.Locating.{constant-lt, split-keeps, accepted-unplaced, check-keeps, residue-small, nine-placed}
+use Rattle.correction.proofs.Locating.{split-keeps, accepted-unplaced, check-keeps, residue-small, nine-placed}
 use borrow.Author.Needs.{needs}
+use Rattle.checksum.proofs.Constants.{constant-lt}
 use Rattle.correction.proofs.locate.Statement.{statement}
 use Rattle.correction.proofs.locate.Tie as tie
 
