@@ -1,4 +1,5 @@
 pub mod Scan
 pub mod Splitting
 pub mod Symbols
+pub mod Numbers
 pub mod Promises

@@ -1,4 +1,5 @@
 pub mod Patterns
 pub mod Steps
 pub mod Walk
+pub mod Numbers
 pub mod Promises
