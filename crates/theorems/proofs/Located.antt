@@ -1,6 +1,6 @@
 -- The locator: which place it names exactly, that there is at most one, and that after one change it is the changed place.
-use mathlib.Core.Path.{_≡_, refl, sym, ap, _∙_}
-use mathlib.Core.Logic.{_≢_, _↔_}
+use mathlib.Core.Path.{_≡_, refl, sym, ap, ap₂, _∙_}
+use mathlib.Core.Logic.{_≢_, inl, inr, _↔_}
 use mathlib.Core.Bool.{Bool, true, false}
 use mathlib.Core.List.{List, [], _∷_, _++_, map}
 use Prim.Native.Nat.{ℕ, zero, suc, _-_, _≤_, _<_}
@@ -23,16 +23,19 @@ use Rattle.answers.specs.declared.Reading.{Reading}
 use Rattle.answers.specs.declared.Reading.the-variants as reading
 use Rattle.answers.specs.declared.Located.{Located}
 use Rattle.answers.specs.declared.Located.the-variants as located
+use Rattle.answers.proofs.Refusals.{reading-never}
 use Rattle.detection.specs.Patterns.{dist}
+use Rattle.detection.specs.Places.{Explains}
 use Rattle.detection.proofs.Distance.{dist-set, dist-zero}
 use Rattle.detection.proofs.Locate.{one-place, explains-change}
 use Rattle.checksum.specs.Parameters.{constantFor}
 use Rattle.checksum.specs.declared.Checksum.{Checksum}
 use Rattle.decode.specs.Promises.{WasRead}
+use Rattle.decode.proofs.Generic.{read-prefix-length, read-payload-length}
 use Rattle.correction.specs.Promises.{WasLocated}
-use Rattle.correction.proofs.Verdicts.{statement-explains, place-found, place-given}
+use Rattle.correction.proofs.Verdicts.{statement-explains, place-found, place-given, place-missing}
 use Rattle.theorems.specs.Changes.{Changed, ChangedAt}
-use Rattle.theorems.specs.Named.{Named}
+use Rattle.theorems.specs.Named.{Named, Unplaced}
 use Rattle.theorems.proofs.Strings.{part-before, part-after, prefix-after, prefix-before}
 use Rattle.theorems.proofs.Detection.{three-changes-refused, residue-right, length-right}
 
@@ -70,6 +73,40 @@ module _ (constant : ℕ) (s : List ℕ) (p : ℕ) where
 -- There is at most one.
 pub named-once : (constant : ℕ) (s : List ℕ) (p q : ℕ) → Named constant s p → Named constant s q → p ≡ q
 named-once constant s p q x y = one-place (residue (prefixPart s) (map symbol (dataPart s))) constant p q (x .1) (y .1) (x .2) (y .2)
+
+-- ---- 21
+
+module _ (constant : ℕ) (s : List ℕ) where
+  -- a residue for which no place is named
+  none-explains : (r : ℕ) → placeVerdict constant r ≡ located.Refused 21 → (p : ℕ) → p < 1023 → Explains r constant p → ⊥
+  none-explains r e p h x =
+      let both : located.At p ≡ located.Refused 21 = sym (place-found constant r p h (statement-explains constant r p x)) ∙ e in
+      let z : _≡_ {A = ℕ} 0 1 = cc in omega arith
+
+  from-number : (n : ℕ) (b : Bool) → eqb n 9 ≡ b → readVerdict constant s ≡ reading.Refused n
+      → pick b (placeVerdict constant (residue (prefixPart s) (map symbol (dataPart s)))) (located.Refused n) ≡ located.Refused 21 → Unplaced constant s
+  from-number n true nine e none =
+      inr (e ∙ ap reading.Refused (eqb-true n 9 nine), none-explains (residue (prefixPart s) (map symbol (dataPart s))) none)
+  from-number n false other e none = let same : n ≡ 21 = cc in absurd (reading-never constant s 21 tt (e ∙ ap reading.Refused same))
+
+  from-reading : (r : Reading) → readVerdict constant s ≡ r
+      → afterReading r (placeVerdict constant (residue (prefixPart s) (map symbol (dataPart s)))) ≡ located.Refused 21 → Unplaced constant s
+  from-reading (reading.Accepted m n) e none =
+      inl (e ∙ ap₂ reading.Accepted (read-prefix-length constant s m n (sym e)) (read-payload-length constant s m n (sym e)))
+  from-reading (reading.Refused n) e none = from-number n (eqb n 9) refl e none
+
+  is-unplaced : locateVerdict constant s ≡ located.Refused 21 → Unplaced constant s
+  unfolding locateVerdict
+  is-unplaced e = from-reading (readVerdict constant s) refl e
+
+  unplaced-is : Unplaced constant s → locateVerdict constant s ≡ located.Refused 21
+  unfolding locateVerdict
+  unplaced-is (inl e) = rw e refl
+  unplaced-is (inr x) = rw (x .0) (place-missing constant (residue (prefixPart s) (map symbol (dataPart s))) (x .1))
+
+  -- Document 01's locator gives 21 exactly for such a string.
+  pub locates-21 : (locateVerdict constant s ≡ located.Refused 21) ↔ Unplaced constant s
+  locates-21 = (is-unplaced, unplaced-is)
 
 -- ---- one change
 
