@@ -1,23 +1,47 @@
--- The table of powers holds what `powerOf` computes: one comparison of the two lists.
+-- Each arm is the power of a at its number, as that computes.
+use mathlib.Core.Path.{sym, ap}
 use Prim.Native.Nat.{_%_}
 use native.Mathlib.Nat.{mod-lt, zero-lt-suc}
 use Rattle.laws.specs.Xor.{_⊕_}
-use Rattle.laws.proofs.Tables.{tabulated}
 use Rattle.gf32.specs.Field.{timesA}
 use Rattle.gf32.specs.Exponents.{powerOf}
-use borrow.Author.Needs.{needs}
+use Rattle.gf32.proofs.Match.{last}
 use Rattle.gf32.proofs.power.Statement.{statement}
 use Rattle.gf32.proofs.power.Tie as tie
 
-cast-result : tie.Need-cast-result
-cast-result c = search needs
-
-array-read-result : tie.Need-array-read-result
-array-read-result c = search needs
-
-returns : tie.Need-returns
-unfolding powerOf timesA _⊕_
-returns c = tabulated powerOf 31 (c .args .n % 31) (mod-lt (c .args .n) (zero-lt-suc 30))
-
 pub power-spec : {M : Type 1} → statement M
-power-spec = tie.close (tie.spec cast-result array-read-result returns)
+unfolding powerOf timesA _⊕_
+power-spec =
+    tie.close
+    (tie.spec
+    (λ c. ap powerOf (sym (c .match .keys1)))
+    (λ c. ap powerOf (sym (c .match .keys2)))
+    (λ c. ap powerOf (sym (c .match .keys3)))
+    (λ c. ap powerOf (sym (c .match .keys4)))
+    (λ c. ap powerOf (sym (c .match .keys5)))
+    (λ c. ap powerOf (sym (c .match .keys6)))
+    (λ c. ap powerOf (sym (c .match .keys7)))
+    (λ c. ap powerOf (sym (c .match .keys8)))
+    (λ c. ap powerOf (sym (c .match .keys9)))
+    (λ c. ap powerOf (sym (c .match .keys10)))
+    (λ c. ap powerOf (sym (c .match .keys11)))
+    (λ c. ap powerOf (sym (c .match .keys12)))
+    (λ c. ap powerOf (sym (c .match .keys13)))
+    (λ c. ap powerOf (sym (c .match .keys14)))
+    (λ c. ap powerOf (sym (c .match .keys15)))
+    (λ c. ap powerOf (sym (c .match .keys16)))
+    (λ c. ap powerOf (sym (c .match .keys17)))
+    (λ c. ap powerOf (sym (c .match .keys18)))
+    (λ c. ap powerOf (sym (c .match .keys19)))
+    (λ c. ap powerOf (sym (c .match .keys20)))
+    (λ c. ap powerOf (sym (c .match .keys21)))
+    (λ c. ap powerOf (sym (c .match .keys22)))
+    (λ c. ap powerOf (sym (c .match .keys23)))
+    (λ c. ap powerOf (sym (c .match .keys24)))
+    (λ c. ap powerOf (sym (c .match .keys25)))
+    (λ c. ap powerOf (sym (c .match .keys26)))
+    (λ c. ap powerOf (sym (c .match .keys27)))
+    (λ c. ap powerOf (sym (c .match .keys28)))
+    (λ c. ap powerOf (sym (c .match .keys29)))
+    (λ c. ap powerOf (sym (c .match .keys30)))
+    (λ c. ap powerOf (sym (last 30 (c .before .args .n % 31) (c .match .rest) (mod-lt (c .before .args .n) (zero-lt-suc 30))))))
