@@ -1,3 +1,4 @@
 pub mod Field
 pub mod Roots
+pub mod Numbers
 pub mod Promises
