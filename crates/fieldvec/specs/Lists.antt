@@ -2,11 +2,11 @@
 -- is empty, a place lies outside it, or lengths are unlike. Both leave the list as it was.
 use mathlib.Core.Bool.{Bool, true, false, _&&_}
 use mathlib.Core.List.{List, [], _∷_, _++_, map, reverse}
-use Prim.Native.Nat.{ℕ, _+_, _-_, _%_}
+use Prim.Native.Nat.{ℕ, _+_, _-_, _%_, _<_}
 use lib.Dec.{leb, ltb, eqb}
 use lib.ListN.{length, set, getD, take, drop, replicate}
 use Rattle.laws.specs.Pick.{pick}
-use Rattle.laws.specs.Lists.{table}
+use Rattle.laws.specs.Lists.{table, Every}
 use Rattle.gf32_ext.specs.Field.{product, power}
 use Rattle.fieldvec.specs.declared.FieldVec.{FieldVec}
 use Rattle.fieldvec.specs.declared.Changed.{Changed}
@@ -19,6 +19,10 @@ use Rattle.fieldvec.specs.declared.Equality.the-variants as equality
 -- what a FieldVec means: the first `len` of its numbers, each an element of GF(1024), that is by its remainder modulo 1024
 abbrev pub elements : FieldVec → List ℕ
 elements t = take (t .len) (t .items)
+
+-- every stored number is below 1024: an element as it stands
+abbrev pub Narrow : FieldVec → Type 0
+Narrow t = Every (λ v. v < 1024) (t .items)
 
 -- a list of at most 7 as a FieldVec, with zeros in the places after it
 abbrev pub listed : List ℕ → FieldVec

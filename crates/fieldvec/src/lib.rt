@@ -1,5 +1,6 @@
 // A short list of elements of GF(1024): a fixed array with a count. An element in hand may be a wider number; it is stored as a u16, by
-// its remainder modulo 1024, and that loses nothing of it. A symbol of GF(32) is the same number in GF(1024), so one list serves both.
+// its remainder modulo the field's order, and that loses nothing of it (proofs/Stored.antt). A symbol of GF(32) is the same number in
+// GF(1024), so one list serves both.
 use answers::LIST_FULL;
 use answers::LIST_PLACE;
 ghost use mathlib.Core.Path.{_≡_};
@@ -12,6 +13,9 @@ ghost use Rattle.fieldvec.specs.Lists.{listed, refused, nothing, pointwi
 ghost use Rattle.fieldvec.specs.Promises.{Emptied, Pushed, PoppedBack, PoppedFront, Got, Lifted, MultipliedPointwise, PowersGiven, Reversed, Compared};
 
 const ACCEPTED: u8 = 0;
+
+// The field that a list is over, by the number of its elements: GF(1024).
+pub const FIELD_ORDER: u16 = 1024;
 
 // The first `len` of the stored numbers are the list. The fields are public, so `len` may be over 7: push then answers that the list
 // is full, and every other function refuses it as a place outside.
@@ -67,7 +71,7 @@ impl FieldVec {
             };
         }
         let mut t = self;
-        t.items[at] = (element % 1024) as u16;
+        t.items[at] = (element % (FIELD_ORDER as u32)) as u16;
         t.len = at + 1;
         Changed {
             number: ACCEPTED,
@@ -93,7 +97,7 @@ impl FieldVec {
         t.len = at;
         Popped {
             number: ACCEPTED,
-            value: v % 1024,
+            value: v % FIELD_ORDER,
             list: t,
         }
     }
@@ -112,7 +116,7 @@ impl FieldVec {
         let rest = copied(&items[1..n]);
         Popped {
             number: ACCEPTED,
-            value: items[0] % 1024,
+            value: items[0] % FIELD_ORDER,
             list: rest,
         }
     }
@@ -127,7 +131,7 @@ impl FieldVec {
         if n <= at {
             return Element::Refused(LIST_PLACE);
         }
-        Element::Value(self.items[at] % 1024)
+        Element::Value(self.items[at] % FIELD_ORDER)
     }
 
     pub fn multiply_pointwise(self, other: FieldVec) -> Changed
@@ -327,7 +331,7 @@ fn matches(s: &[u16], t: &[u16]) -> bool
     }
     let mut i = 0;
     while i < s.len() {
-        if s[i] % 1024 != t[i] % 1024 {
+        if s[i] % FIELD_ORDER != t[i] % FIELD_ORDER {
             return false;
         }
         i += 1;

@@ -12,6 +12,12 @@ returns c = rw (le-leb _ _ (c .if1 .taken))
 cast-t : tie.Need-cast-t
 cast-t c = search needs
 
+rem-t : tie.Need-rem-t
+rem-t c = search needs
+
+cast-t-2 : tie.Need-cast-t-2
+cast-t-2 c = search needs
+
 mul-t : tie.Need-mul-t
 mul-t c = search needs
 
@@ -26,4 +32,4 @@ unfolding pushed
 returns-2 c = rw (lt-leb _ _ (c .if1 .left))
 
 pub push-spec : {M : Type 1} → statement M
-push-spec = tie.close (tie.spec returns cast-t mul-t element-write-t add-t returns-2)
+push-spec = tie.close (tie.spec returns cast-t rem-t cast-t-2 mul-t element-write-t add-t returns-2)
