@@ -1,20 +1,23 @@
--- The traps that document 01 names, on the smallest inputs; the checksum's generator and its first root; a wrong answer that is ruled out.
-use mathlib.Core.Path.{_≡_, refl}
+-- The traps that document 01 names, on the smallest inputs; the checksum's generator and its first root; wrong answers that are ruled out.
+use mathlib.Core.Path.{_≡_, refl, ap, _∙_}
 use mathlib.Core.List.{[], _∷_}
-use Prim.Native.Nat.{ℕ}
+use Prim.Native.Nat.{ℕ, suc}
 use native.Mathlib.Omega.{arith}
+use lib.ListN.{getD}
 use Rattle.laws.specs.Xor.{_⊕_}
 use Rattle.gf32.specs.Field.{products, timesA, sum as sum32, product as product32}
 use Rattle.gf32_ext.specs.Field.{sum, product, power}
+use Rattle.fieldvec.specs.declared.FieldVec.{FieldVec}
+use Rattle.fieldvec.specs.declared.Changed.{Changed}
 use Rattle.fieldvec.specs.declared.Element.the-variants as element
-use Rattle.fieldvec.specs.Lists.{listed, accepted}
+use Rattle.fieldvec.specs.Lists.{listed, accepted, refused}
 use Rattle.polynomial.specs.declared.Exponent.the-variants as exponent
 use Rattle.polynomial.specs.declared.Truth.the-variants as truth
 use Rattle.polynomial.specs.declared.Root.the-variants as root
-use Rattle.polynomial.specs.Polynomials.{degree, leading, valueFrom, valueAt, trimmed, multiple, multiples, derivative}
-use Rattle.polynomial.specs.Products.{sumBelow, coefficient, coefficientsFrom, productModulo}
-use Rattle.polynomial.specs.Answers.{degreeOf, leadingOf, zeroIsRoot, derivativeOf, productOf, rootFrom, firstRoot}
-use Rattle.polynomial.specs.Promises.{LeadingGiven}
+use Rattle.polynomial.specs.Polynomials.{degree, leading, valueFrom, valueAt, trimmed, multiple, multiples, derivative, residuePolynomial}
+use Rattle.polynomial.specs.Products.{sumBelow, coefficient, coefficientsFrom, productModulo, convolved}
+use Rattle.polynomial.specs.Answers.{degreeOf, leadingOf, zeroIsRoot, valueOf, derivativeOf, productOf, convolutionOf, rootFrom, firstRoot}
+use Rattle.polynomial.specs.Promises.{DegreeGiven, LeadingGiven, ZeroAsked, Evaluated, Derived, Multiplied, Convolved, FromResidue, RootFound}
 
 -- the empty list is the zero polynomial, and has degree 0
 empty-degree : degreeOf (listed []) ≡ exponent.Value 0
@@ -53,3 +56,45 @@ first-of-generator = refl
 pub not-the-last : LeadingGiven (listed (1 ∷ 0 ∷ [])) (element.Value 0) → ⊥
 unfolding leadingOf leading degree
 not-the-last e = let wrong : _≡_ {A = ℕ} 0 1 = cc in omega arith
+
+-- a degree that counts the coefficients, zeros at the end with them
+pub not-counted : DegreeGiven (listed (1 ∷ 0 ∷ [])) (exponent.Value 1) → ⊥
+unfolding degreeOf degree
+not-counted e = let wrong : _≡_ {A = ℕ} 0 1 = cc in omega arith
+
+-- zero that is never a root
+pub not-never : ZeroAsked (listed (0 ∷ 1 ∷ [])) truth.No → ⊥
+not-never e = let wrong : _≡_ {A = ℕ} 0 1 = cc (e, zero-of-x) in omega arith
+
+-- a value that is always the constant term
+value-of-x : valueOf (listed (0 ∷ 1 ∷ [])) 5 ≡ element.Value 5
+unfolding valueOf valueAt valueFrom sum sum32 product product32 products timesA power _⊕_
+value-of-x = refl
+
+pub not-the-constant : Evaluated (listed (0 ∷ 1 ∷ [])) 5 (element.Value 0) → ⊥
+not-the-constant e = let wrong : _≡_ {A = ℕ} 0 5 = cc (e, value-of-x) in omega arith
+
+-- a derivative that is the polynomial itself
+pub not-itself : Derived (listed (5 ∷ 0 ∷ [])) (accepted (listed (5 ∷ 0 ∷ []))) → ⊥
+not-itself e = let wrong : _≡_ {A = ℕ} 2 0 = ap (λ (c : Changed). c .list .len) (e ∙ constant-derivative) in omega arith
+
+-- a product that is always refused
+pub not-always-refused : (n : ℕ) → Multiplied (listed (1 ∷ 2 ∷ [])) (listed (3 ∷ 4 ∷ [])) 99 (refused (suc n) (listed [])) → ⊥
+not-always-refused n e = let wrong : suc n ≡ 0 = ap (λ (c : Changed). c .number) (e ∙ small-product) in omega arith
+
+-- a convolution that is always zero: of 1 and 5 it is 5
+five : convolutionOf (listed (1 ∷ [])) (listed (5 ∷ [])) ≡ accepted (listed (5 ∷ []))
+unfolding convolutionOf convolved coefficientsFrom coefficient sumBelow degree sum sum32 product product32 products timesA _⊕_
+five = refl
+
+pub not-always-zero : Convolved (listed (1 ∷ [])) (listed (5 ∷ [])) (accepted (listed (0 ∷ []))) → ⊥
+not-always-zero e = let wrong : _≡_ {A = ℕ} 0 5 = ap (λ (c : Changed). getD (c .list .items) 0 0) (e ∙ five) in omega arith
+
+-- a residue that is always the zero polynomial
+pub not-the-zero-residue : FromResidue 1 (listed (0 ∷ 0 ∷ 0 ∷ 0 ∷ 0 ∷ 0 ∷ [])) → ⊥
+unfolding residuePolynomial
+not-the-zero-residue e = let wrong : _≡_ {A = ℕ} 0 1 = ap (λ (t : FieldVec). getD (t .items) 0 0) e in omega arith
+
+-- a search that never finds a root
+pub not-always-none : RootFound (listed (18 ∷ 29 ∷ 21 ∷ 20 ∷ 22 ∷ 29 ∷ 1 ∷ [])) 193 24 root.None → ⊥
+not-always-none e = let wrong : _≡_ {A = ℕ} 0 1 = cc (e, first-of-generator) in omega arith
