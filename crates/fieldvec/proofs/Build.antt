@@ -1,7 +1,7 @@
 -- A loop that makes a list from seven zeros, one element a turn: after i turns the array is `front l zeros i`. And what stands at a
 -- place of a list that is reversed, multiplied pointwise or tabulated, which is what such a loop stores.
 use mathlib.Core.Path.{_≡_, refl, sym, ap, ap₂, _∙_}
-use mathlib.Core.List.{List, [], _∷_, _++_, map, reverse, reverseAux, reverseAux-eq}
+use mathlib.Core.List.{List, [], _∷_, _++_, reverse, reverseAux, reverseAux-eq}
 use Prim.Native.Nat.{ℕ, zero, suc, _+_, _-_, _<_, _≤_}
 use native.Mathlib.Nat.{not-suc-le-zero, le-of-suc-le-suc, suc-sub-suc}
 use native.Mathlib.Decide.{ℕ-discrete}
@@ -74,8 +74,3 @@ tableFrom-length g i (suc n) = ap suc (tableFrom-length g (suc i) n)
 
 pub table-length : (g : ℕ → ℕ) (n : ℕ) → length (table g n) ≡ n
 table-length g n = tableFrom-length g 0 n
-
-pub map-at : (f : ℕ → ℕ) (l : List ℕ) (i : ℕ) → i < length l → getD (map f l) i 0 ≡ f (getD l i 0)
-map-at f [] i h = absurd (not-suc-le-zero h)
-map-at f (x ∷ xs) zero h = refl
-map-at f (x ∷ xs) (suc i) h = map-at f xs i (le-of-suc-le-suc h)

@@ -6,7 +6,8 @@ use mathlib.Core.List.{map}
 use lib.ListN.{length, length-map}
 use Rattle.laws.proofs.Front.{front}
 use Rattle.fieldvec.specs.Lists.{symbolOf}
-use Rattle.fieldvec.proofs.Build.{zeros, fill-more, fill-all, map-at}
+use Rattle.fieldvec.proofs.Build.{zeros, fill-more, fill-all}
+use Rattle.laws.proofs.Front.{getD-map}
 use borrow.Author.Needs.{needs}
 use Rattle.fieldvec.proofs.embedded.Statement.{statement}
 use Rattle.fieldvec.proofs.embedded.Tie as tie
@@ -43,7 +44,7 @@ loop-again c =
     let same = length-map (c .before .before .before .before .before .args .s .now) symbolOf in (
       search needs,
       fill-more (map symbolOf (c .before .before .before .before .before .args .s .now)) (omega arith) (c .before .before .before .loop .i) (c .before .before .before .loop .inv .1) (omega arith)
-          (c .embed .ensures ∙ sym (map-at symbolOf (c .before .before .before .before .before .args .s .now) (c .before .before .before .loop .i) (search needs))),
+          (c .embed .ensures ∙ sym (getD-map 0 symbolOf (c .before .before .before .before .before .args .s .now) (c .before .before .before .loop .i) (search needs))),
     )
 
 returns : tie.Need-returns Inv-loop μ-loop
