@@ -11,13 +11,22 @@ ENTRY = struct.Struct("@NNBBN")  # start, length, verdict, version, program leng
 BESIDE = b"\xaa" * ENTRY.size    # what lies before a lent list of entries, and after it
 
 
+def fresh(archive):
+    """It stands, and is newer than all that it is made of."""
+    sources = [ROOT / "crates.txt", *(ROOT / "crates").rglob("*.rt"), *(ROOT / "crates").rglob("*.antt")]
+    return archive.exists() and archive.stat().st_mtime > max(source.stat().st_mtime for source in sources)
+
+
 def build(crates):
     """Proves the crates if they are not proved yet, and gives their libraries as one shared library."""
     archives = [ROOT / f"target/staticlib/lib{crate}.a" for crate in crates]
     for crate in crates:
+        if fresh(ROOT / f"target/staticlib/lib{crate}.a"):
+            continue
         made = subprocess.run(["rt", "staticlib", crate], cwd=ROOT, capture_output=True, encoding="utf-8")
         if made.returncode:
             raise RuntimeError(f"rt staticlib {crate}: " + (made.stdout + made.stderr)[-2000:])
+        (ROOT / f"target/staticlib/lib{crate}.a").touch()  # rt leaves a library that has not changed as it is
     shared = ROOT / f"target/staticlib/lib{'_'.join(crates)}.so"
     subprocess.run(["gcc", "-shared", "-o", shared, "-Wl,--whole-archive", *archives, "-Wl,--no-whole-archive"], check=True)
     return ctypes.CDLL(str(shared))

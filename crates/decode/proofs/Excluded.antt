@@ -3,7 +3,7 @@ use mathlib.Core.Path.{_≡_, refl, ap, _∙_}
 use mathlib.Core.List.{List, []}
 use Prim.Native.Nat.{ℕ}
 use native.Mathlib.Omega.{arith}
-use lib.ListN.{length, getD, replicate}
+use lib.ListN.{length, take, drop, getD, replicate}
 use borrow.Author.Tests.{eqb-false}
 use Rattle.laws.specs.Text.{bytes}
 use Rattle.answers.specs.declared.Reading.the-variants as reading
@@ -80,6 +80,32 @@ payload-not-always-empty e = eqb-false 0 33 refl (ap length e)
 pub program-not-always-empty : ProgramGiven key-text key-parts [] → ⊥
 unfolding programIn payloadIn dataIn belongs
 program-not-always-empty e = eqb-false 0 32 refl (ap length e)
+
+-- ---- another part of the string
+
+-- the separator with the prefix
+pub prefix-part-not-with-separator : PrefixPartGiven Bech32 key-text (take 3 key-text) → ⊥
+unfolding computing
+prefix-part-not-with-separator e = eqb-false 3 2 refl (ap length e)
+
+-- as many bytes as there are symbols
+pub prefix-not-by-symbols : PrefixGiven key-text key-parts (take 39 key-text) → ⊥
+unfolding prefixIn belongs
+prefix-not-by-symbols e = eqb-false 39 2 refl (ap length e)
+
+-- what stands after as many bytes as there are symbols
+pub data-not-by-symbols : DataGiven key-text key-parts (drop 40 key-text) → ⊥
+unfolding dataIn belongs
+data-not-by-symbols e = eqb-false 2 39 refl (ap length e)
+
+-- the checksum left on, and the version left on
+pub payload-not-all-data : PayloadGiven key-text key-parts (dataIn key-text key-parts) → ⊥
+unfolding payloadIn dataIn belongs
+payload-not-all-data e = eqb-false 39 33 refl (ap length e)
+
+pub program-not-all-payload : ProgramGiven key-text key-parts (payloadIn key-text key-parts) → ⊥
+unfolding programIn payloadIn dataIn belongs
+program-not-all-payload e = eqb-false 33 32 refl (ap length e)
 
 -- ---- accepting and leaving the buffer as it was
 
