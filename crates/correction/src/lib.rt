@@ -32,7 +32,8 @@ const ROOT_25: u16 = 878;
 
 const ROOT_26: u16 = 966;
 
-// For a string that generic reading refuses with 9: the one place, counted from the end, at which another symbol would make it accepted.
+// For a string that generic reading refuses with 9: the one place, counted from the end, at which another symbol would give
+// the accepting residue. It may lie before the string's data part.
 pub fn locate(checksum: Checksum, s: &[u8]) -> Located
     ensures { λ r. ⌜ WasLocated checksum (now (s .entry)) r ⌝ }
 {
