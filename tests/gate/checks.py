@@ -4,7 +4,7 @@ import re
 import shutil
 import subprocess
 
-from . import lists, sources
+from . import edits, lists, sources, statements
 
 NO_RT = ("rt", "it is not on PATH: install the Rattle kit, or add its bin folder to PATH")
 
@@ -27,6 +27,7 @@ class Repository:
         self.folders = sorted(path.name for path in folder.glob("*") if path.is_dir())
         self.functions = [f for crate in self.folders for f in sources.functions(root, crate) if f.public]
         self.declared = {crate: sources.declarations(root, crate) for crate in self.folders}
+        self.types = {name for crate in self.folders for name in sources.types(root, crate)}
         self.edit_files = {f"{crate}/{label}" for crate, label in
                            re.findall(r"^(\w+)/must-fail/([\w-]+)\.edit$", "\n".join(self.files), re.M)}
 
@@ -104,28 +105,24 @@ def promises(root, report):
     repository = Repository(root)
     for function in repository.functions:
         report.check(contract_problems(function) + row_problems(repository, function))
-    named = {f"{name.split('::')[0]}/{label}" for name, (_, cells) in repository.rows.items()
-             for label in re.findall(r"edit:([\w-]+)", cells[2])}
+    for crate, declared in repository.declared.items():
+        other = [(f"crates/{crate}", f"{d.module} gives {d.name} another meaning") for d in declared if d.name in statements.FIXED]
+        report.check(other)
+    named = {}  # of each edit, the functions whose rows name it
+    for name, (_, cells) in repository.rows.items():
+        for label in re.findall(r"edit:([\w-]+)", cells[2]):
+            named.setdefault(f"{name.split('::')[0]}/{label}", []).append(name)
     for edit in sorted(repository.edit_files):
         known = edit in named or edit in repository.edits
-        report.expect(known, file_of(edit), "no row of docs/PROMISES.md names this edit")
+        what = edit_problems(root, repository, edit, named.get(edit, [])) if known else ["no row of docs/PROMISES.md names this edit"]
+        report.check([(file_of(edit), each) for each in what])
     for edit, (place, (theorem,)) in repository.edits.items():
-        report.check(definition_problems(repository, edit, place, theorem))
+        report.check(definition_problems(root, repository, edit, place, theorem))
 
 
 def contract_problems(function):
     """What is wrong with the function's clauses."""
-    wrong = []
-    if function.requires:
-        wrong.append("has a requires")
-    if not function.ensures:
-        wrong.append("has no ensures")
-    else:
-        if function.result and not function.speaks_of_result():
-            wrong.append("has an ensures that does not speak of the result")
-        wrong += [f"has an ensures that does not speak of `{parameter} .exit`"
-                  for parameter in function.lent if not function.speaks_of_exit(parameter)]
-    return [(place_of(function), f"{function.name} {what}") for what in wrong]
+    return [(place_of(function), f"{function.name} {what}") for what in statements.ensures_problems(function)]
 
 
 def row_problems(repository, function):
@@ -133,25 +130,18 @@ def row_problems(repository, function):
     if function.name not in repository.rows:
         return []
     place, (promise, once, wrong_answers) = repository.rows[function.name]
-    crate = function.name.split("::")[0]
-    wrong = []
-    if not function.promises(promise):
-        wrong.append(f"the ensures of {function.name} does not name {promise}")
-    wrong += uniqueness_problems(repository, function.name, crate, promise, once)
-
-    answers = set(re.findall(lists.WRONG, wrong_answers))
-    if len(answers) < 2:
-        wrong.append(f"{function.name} names {len(answers)} wrong answers, and two are asked for")
-    for kind, word in (answer.split(":", 1) for answer in sorted(answers)):
-        if kind == "edit" and f"{crate}/{word}" not in repository.edit_files:
-            wrong.append(f"there is no {file_of(f'{crate}/{word}')}")
-        if kind == "theorem" and not any(d.public for d in repository.theorems(crate, word)):
-            wrong.append(f"there is no public theorem {word} in specs/ or proofs/ of {crate}")
+    crate, said = function.name.split("::")[0], statements.ensured(function)
+    home = f"Rattle.{crate}.specs.Promises.{promise}"
+    if not said or said.promise != promise or function.brought.get(promise) != home:
+        return [(place, f"the ensures of {function.name} is not {promise} of specs/Promises")]
+    wrong = [f"{promise} {what}" for what in statements.promise_problems(repository.declared[crate], said)]
+    wrong += uniqueness_problems(repository, function.name, crate, said, once)
+    wrong += wrong_answer_problems(repository, function.name, crate, promise, wrong_answers)
     return [(place, what) for what in wrong]
 
 
-def uniqueness_problems(repository, name, crate, promise, once):
-    """Two outcomes that both meet the promise are equal: a theorem that names the promise of each."""
+def uniqueness_problems(repository, name, crate, said, once):
+    """Two outcomes that both meet the promise are equal."""
     is_open = once.startswith("open: ")
     if is_open and name not in repository.open:
         return [f"{name} leaves its answer open, and docs/EXCEPTIONS.md does not list it"]
@@ -159,19 +149,96 @@ def uniqueness_problems(repository, name, crate, promise, once):
         return []
     if name in repository.open:
         return [f"{name} stands in docs/EXCEPTIONS.md, so its one answer reads `open: ..`"]
-    theorems = [d for d in repository.theorems(crate, once) if d.public]
-    if not theorems:
+    theorem = the_theorem(repository, crate, once)
+    if not theorem:
         return [f"there is no public theorem {once} in specs/ or proofs/ of {crate}"]
-    if not any(sources.names(d.statement).count(promise) >= 2 for d in theorems):
-        return [f"the statement of {once} does not name {promise} twice"]
-    return []
+    found = statements.theorem_problems(theorem, crate, said.promise, repository.types) + statements.once_problems(theorem, said)
+    return [f"{once} {what}" for what in found]
 
 
-def definition_problems(repository, edit, place, theorem):
+def wrong_answer_problems(repository, name, crate, promise, wrong_answers):
+    answers = set(re.findall(lists.WRONG, wrong_answers))
+    found = []
+    if len(answers) < 2:
+        found.append(f"{name} names {len(answers)} wrong answers, and two are asked for")
+    promises = {cells[0] for row, (_, cells) in repository.rows.items() if row.split("::")[0] == crate}
+    for kind, word in (answer.split(":", 1) for answer in sorted(answers)):
+        theorem = the_theorem(repository, crate, word) if kind == "theorem" else None
+        if theorem:
+            problems = statements.theorem_problems(theorem, crate, promise, repository.types)
+            found += [f"{word} {what}" for what in problems + statements.wrong_problems(theorem, promise, promises)]
+        elif kind == "theorem":
+            found.append(f"there is no public theorem {word} in specs/ or proofs/ of {crate}")
+        elif f"{crate}/{word}" not in repository.edit_files:
+            found.append(f"there is no {file_of(f'{crate}/{word}')}")
+    return found
+
+
+def the_theorem(repository, crate, word):
+    """The one public declaration that a row can mean."""
+    found = [d for d in repository.theorems(crate, word) if d.public and "record" not in d.marks]
+    return found[0] if len(found) == 1 else None
+
+
+# ---- edits
+
+def edit_problems(root, repository, name, functions):
+    """What an edit must say, and that what it names is there. That the prover agrees is for proves to say."""
+    edit = edits.edit_of(root / file_of(name))
+    found = [f"it has no `# {line}:`" for line, there in (("refused at", edit.refused_at), ("harmless", edit.harmless)) if not there]
+    for stated in edit.refused_at:
+        words = stated.split()
+        if words[:1] == ["fn"] and len(words) == 3:
+            found += function_problems(root, edit, words, functions)
+        elif len(words) == 2 and re.fullmatch(r"(?:specs|proofs)/\S+\.antt", words[0]):
+            found += file_problems(root, repository, edit, words, functions)
+        else:
+            found.append(f"expected `# refused at: FILE DECLARATION` or `# refused at: fn NAME NEED`, found `{stated}`")
+        if edits.SAFETY.fullmatch(words[-1] if words else ""):
+            found.append(f"it is refused for safety, at {words[-1]}, and not for what it changes")
+    return found
+
+
+def function_problems(root, edit, words, functions):
+    meant = [f.name for f in sources.functions(root, edit.crate) if edits.ends_in(f.name, words[1])]
+    if len(meant) != 1:
+        return [f"it says `fn {words[1]}`, and {edit.crate} has {len(meant)} functions of that name"]
+    return [f"it is named for {name}, and refused in {meant[0]}" for name in functions if name != meant[0]]
+
+
+def file_problems(root, repository, edit, words, functions):
+    file, name = words
+    module = file.split("/", 1)[1].removesuffix(".antt").replace("/", ".")
+    if not (root / "crates" / edit.crate / file).is_file() or not any(d.name == name and d.module == module for d in repository.declared[edit.crate]):
+        return [f"there is no {name} in {file} of {edit.crate}"]
+    return [f"it is named for {function}, whose proof does not rest on {file}"
+            for function in functions if not rests_on(root, function, file)]
+
+
+def rests_on(root, function, file):
+    """A file is the function's own proof, or one that this proof takes laws from, directly or not. Another function's proof is neither."""
+    crate, *path = function.split("::")
+    own = f"proofs/{'/'.join(path)}/Proof.antt"
+    if file == own or file.endswith("/Proof.antt"):
+        return file == own
+    found, todo = set(), [own]
+    while todo:
+        at = todo.pop()
+        if at not in found and (root / "crates" / crate / at).is_file():
+            found.add(at)
+            text = sources.read_without(sources.ANTT_SILENT, root / "crates" / crate / at)
+            todo += [f"{part}/{module.replace('.', '/')}.antt" for part, module in
+                     re.findall(rf"\buse\s+Rattle·{crate}·(?:specs|proofs)\.(specs|proofs)\.([\w.]*\w)", text)]
+    return file in found
+
+
+def definition_problems(root, repository, edit, place, theorem):
     """What is wrong with an edit of a definition: one that belongs to no function."""
     problems = []
     if edit not in repository.edit_files:
         problems.append((place, f"there is no {file_of(edit)}"))
+    elif not any(stated.split()[-1:] == [theorem.split(".")[-1]] for stated in edits.edit_of(root / file_of(edit)).refused_at):
+        problems.append((place, f"{edit} does not say that {theorem} refuses it"))
     if not any(repository.theorems(crate, theorem) for crate in repository.folders):
         problems.append((place, f"there is no theorem {theorem} in specs/ or proofs/ of any crate"))
     return problems

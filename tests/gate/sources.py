@@ -31,6 +31,56 @@ def names(text):
     return re.findall(NAME, text)
 
 
+def tokens(text):
+    """antt's words and signs. An escaped name is one word, without its « »; a bare one with a `_` inside is another name, and keeps it as `_x`."""
+    found = re.findall(rf"«[^»]*»|{NAME}|[(){{}}.;,@]", text)
+    return [word[1:-1] if word[0] == "«" else "_" + word if re.fullmatch(r"\w+_\w+", word) else word for word in found]
+
+
+def parts(words, separator):
+    """A list of words cut at each separator that stands in no bracket."""
+    found, depth = [[]], 0
+    for word in words:
+        depth += (word in ("(", "{")) - (word in (")", "}"))
+        if word == separator and depth == 0:
+            found.append([])
+        else:
+            found[-1].append(word)
+    return found
+
+
+def atoms(words):
+    """The words of an application, each bracket with what is in it as one."""
+    found, depth = [], 0
+    for word in words:
+        depth -= word in (")", "}")
+        if depth and found:
+            found[-1] += " " + word
+        elif word in (")", "}") and found:
+            found[-1] += " " + word
+        else:
+            found.append(word)
+        depth += word in ("(", "{")
+    return found
+
+
+def bare(words):
+    """Words without the brackets around all of them."""
+    while words[:1] == ["("] and len(atoms(words)) == 1:
+        words = words[1:-1]
+    return words
+
+
+def imported(text):
+    """What the `use` and `ghost use` lines bring: {name: the path with the name it has there}."""
+    found = {}
+    for path, listed in re.findall(r"\buse\s+([^\s;{]+?)\.?\s*\{([^}]*)\}", text):
+        for item in listed.split(","):
+            there, _, here = item.partition(" as ")
+            found[(here or there).strip()] = f"{path}.{there.strip()}"
+    return found
+
+
 # ---- Rattle
 
 @dataclass
@@ -39,21 +89,11 @@ class Function:
     file: str       # from the root, as crates/gf32/src/lib.rt
     line: int
     public: bool
+    parameters: list
+    lent: list      # those that are &mut
     result: bool    # it returns something
-    lent: list      # the names of its &mut parameters
-    requires: list  # the texts between the braces of its clauses
-    ensures: list
-
-    def speaks_of_result(self):
-        """One of its `ensures { λ r. body }` has r in the body."""
-        return any(result in names(body) for result, body in map(bound, self.ensures))
-
-    def speaks_of_exit(self, parameter):
-        """One of its ensures has `parameter .exit`; antt writes some names in « »."""
-        return any(re.search(rf"(?<![\w-]){parameter}»?\s*\.exit\b", clause) for clause in self.ensures)
-
-    def promises(self, promise):
-        return any(promise in names(clause) for clause in self.ensures)
+    clauses: dict   # of requires, ensures and ghost: the texts between the braces
+    brought: dict   # what the file's `ghost use` lines bring
 
 
 def functions(root, crate):
@@ -81,11 +121,12 @@ STEP = re.compile(r"""
 def functions_of(text, module, file):
     found = []
     scopes = [module]  # of each brace that is open: the path of what is declared in it
+    brought = imported(text)
     for step in STEP.finditer(text):
         if step["name"]:
             public = bool(step["exported"] or step["pub"] and not step["within"])
             line = text.count("\n", 0, step.start("name")) + 1
-            found.append(Function(f"{scopes[-1]}::{step['name']}", file, line, public, *contract(text, step.end())))
+            found.append(Function(f"{scopes[-1]}::{step['name']}", file, line, public, *contract(text, step.end()), brought))
         elif step["scope"]:
             scopes.append(scopes[-1] + "::" + re.sub(r"<[^<>]*>", "", step["scope"]).split()[-1])
         elif step[0] == "{":
@@ -95,11 +136,15 @@ def functions_of(text, module, file):
     return found
 
 
+LENT = r"&\s*(?:'\w+\s+)?mut\b"
+
+
 def contract(text, at):
-    """What stands after a function's name: (has a result, &mut parameters, requires, ensures)."""
+    """What stands after a function's name: (parameters, those that are &mut, has a result, clauses)."""
     start = text.find("(", at)
     at = closing(text, start)
-    lent = re.findall(r"(\w+)\s*:[^,]*?&\s*(?:'\w+\s+)?mut\b|&\s*(?:'\w+\s+)?mut\s+(self)\b", text[start:at])
+    parameters = re.findall(r"(?:^|,)\s*(?:mut\s+)?(?:&\s*(?:'\w+\s+)?(?:mut\s+)?)?(\w+)\s*(?=[:,]|$)", flat(text[start + 1:at]))
+    lent = re.findall(rf"(\w+)\s*:[^,]*?{LENT}|{LENT}\s+(self)\b", flat(text[start + 1:at]))
     result, clauses = None, {"ghost": [], "requires": [], "ensures": []}
     while True:
         brace = text.find("{", at)
@@ -108,9 +153,18 @@ def contract(text, at):
         if result is None:
             result = re.sub(r"\s", "", head[:clause.start()] if clause else head)
         if brace < 0 or not clause:  # this brace opens the body
-            return result not in ("", "->()"), [a or b for a, b in lent], clauses["requires"], clauses["ensures"]
+            return parameters, [a or b for a, b in lent], result not in ("", "->()"), clauses
         at = closing(text, brace)
         clauses[clause[1]].append(text[brace + 1:at])
+
+
+def flat(text):
+    """A list of parameters with no comma but those between two of them."""
+    depth, found = 0, ""
+    for sign in text:
+        depth += (sign in "([<") - (sign in ")]>")
+        found += ";" if sign == "," and depth else sign
+    return found
 
 
 def closing(text, start):
@@ -124,15 +178,10 @@ def closing(text, start):
     return len(text)
 
 
-def bound(clause):
-    """Of `λ r. body`, also `λ (r : T). body`: r, and the body. A clause that is no λ binds nothing."""
-    depth = 0
-    for at, sign in enumerate(clause):
-        depth += (sign in "({") - (sign in ")}")
-        if sign == "." and depth == 0:
-            binders = names(re.sub(r":[^)]*", "", clause[:at]))
-            return (binders[-1] if binders[:1] == ["λ"] else ""), clause[at + 1:]
-    return "", clause
+def types(root, crate):
+    """The structs and enums that a crate declares."""
+    return {name for path in (root / "crates" / crate / "src").rglob("*.rt")
+            for name in re.findall(r"\b(?:struct|enum)\s+(\w+)", read_without(RATTLE_SILENT, path))}
 
 
 # ---- antt
@@ -141,24 +190,43 @@ def bound(clause):
 class Declaration:
     module: str     # File, or folder.File
     name: str
-    public: bool
-    statement: str  # the signature, up to the definition
+    marks: str      # what stands before the name: pub, abbrev, unfoldable, record
+    top: bool       # it stands in no section
+    statement: str  # of a record: its parameters, up to the colon; else what stands after the colon, up to the definition
+    body: str       # of a record: its fields; else its clauses
+    brought: dict   # what the file's `use` lines bring
+
+    @property
+    def public(self):
+        return "pub" in self.marks
 
 
-SIGNATURE = re.compile(rf"\s*(?:(?:unfoldable|abbrev)\s+)*(pub\s+)?({NAME})\s*(?:\{{[^{{}}]*\}}\s*)?:\s")
+SIGNATURE = re.compile(rf"\s*((?:(?:unfoldable|abbrev|pub)\s+)*)({NAME})\s*(?:\{{[^{{}}]*\}}\s*)?:\s")
+RECORD = re.compile(rf"\s*((?:pub\s+)?record)\s+({NAME})\s")
 SECTION = re.compile(r"\s*(?:module\b.*\bwhere|(?:(?:unfoldable|abbrev)\s+)*mutual)\s*$", re.S)
 
 
 def declarations(root, crate):
-    """Every declaration with a signature in a crate's specs/ and proofs/, fields and helpers left out."""
+    """Every declaration with a signature and every record in a crate's specs/ and proofs/, helpers left out."""
     found = []
     for folder in (root / "crates" / crate / part for part in ("specs", "proofs")):
         for path in sorted(folder.rglob("*.antt")):
             module = ".".join(path.relative_to(folder).with_suffix("").parts)
-            for item in items(read_without(ANTT_SILENT, path)):
-                signature = SIGNATURE.match(item)
-                if signature:
-                    found.append(Declaration(module, signature[2], bool(signature[1]), item))
+            found += declared(module, read_without(ANTT_SILENT, path))
+    return found
+
+
+def declared(module, text):
+    found, brought = [], imported(text)
+    for item in items(text):
+        record, signature = RECORD.match(item), SIGNATURE.match(item)
+        if record:
+            head, _, fields = item[record.end():].partition(" where")
+            found.append(Declaration(module, record[2], record[1], item[0] != " ", head.rpartition(":")[0], fields, brought))
+        elif signature:
+            found.append(Declaration(module, signature[2], signature[1], item[0] != " ", item[signature.end():], "", brought))
+        elif found and names(item)[:1] == [found[-1].name]:
+            found[-1].body += item + "\n"
     return found
 
 
