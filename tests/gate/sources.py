@@ -6,6 +6,7 @@ functions found here to the ones that the prover names.
 
 import re
 from dataclasses import dataclass
+from functools import cache
 
 NAME = r'[^\s(){}.;,@"«»]+'  # antt's rule of a name
 
@@ -24,7 +25,12 @@ def read(path):
 
 def read_without(silent, path):
     """A file's text with what is silent as blanks, so that every line keeps its number."""
-    return re.sub(silent, lambda found: re.sub(r"[^\n]", " ", found[0]), read(path), flags=re.S)
+    return without(silent, read(path))
+
+
+@cache
+def without(silent, text):
+    return re.sub(silent, lambda found: re.sub(r"[^\n]", " ", found[0]), text, flags=re.S)
 
 
 def names(text):
@@ -118,6 +124,7 @@ STEP = re.compile(r"""
   | [{}]""", re.X)
 
 
+@cache
 def functions_of(text, module, file):
     found = []
     scopes = [module]  # of each brace that is open: the path of what is declared in it
@@ -216,6 +223,7 @@ def declarations(root, crate):
     return found
 
 
+@cache
 def declared(module, text):
     found, brought = [], imported(text)
     for item in items(text):
