@@ -159,8 +159,9 @@ def uniqueness_problems(repository, name, crate, said, once):
 def wrong_answer_problems(repository, name, crate, promise, wrong_answers):
     answers = set(re.findall(lists.WRONG, wrong_answers))
     found = []
-    if len(answers) < 2:
-        found.append(f"{name} names {len(answers)} wrong answers, and two are asked for")
+    count = len({answer.split(".")[-1].removeprefix("theorem:") for answer in answers})  # File.name and name are one theorem
+    if count < 2:
+        found.append(f"{name} names {count} wrong answers, and two are asked for")
     promises = {cells[0] for row, (_, cells) in repository.rows.items() if row.split("::")[0] == crate}
     for kind, word in (answer.split(":", 1) for answer in sorted(answers)):
         theorem = the_theorem(repository, crate, word) if kind == "theorem" else None
@@ -187,15 +188,17 @@ def edit_problems(root, repository, name, functions):
     edit = edits.edit_of(root / file_of(name))
     found = [f"it has no `# {line}:`" for line, there in (("refused at", edit.refused_at), ("harmless", edit.harmless)) if not there]
     for stated in edit.refused_at:
-        words = stated.split()
+        words, need = stated.split(), ""
         if words[:1] == ["fn"] and len(words) == 3:
+            need = words[2]
             found += function_problems(root, edit, words, functions)
         elif len(words) == 2 and re.fullmatch(r"(?:specs|proofs)/\S+\.antt", words[0]):
+            need = edits.need_of(root / "crates" / edit.crate / words[0], words[1])
             found += file_problems(root, repository, edit, words, functions)
         else:
             found.append(f"expected `# refused at: FILE DECLARATION` or `# refused at: fn NAME NEED`, found `{stated}`")
-        if edits.SAFETY.fullmatch(words[-1] if words else ""):
-            found.append(f"it is refused for safety, at {words[-1]}, and not for what it changes")
+        if edits.SAFETY.fullmatch(need):
+            found.append(f"it is refused for safety, at {need}, and not for what it changes")
     return found
 
 

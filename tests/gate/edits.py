@@ -17,9 +17,9 @@ from .sources import NAME, read
 SHAPE = re.compile(r"error: .*(?:has no field|has no `?Need-|can be named from here|expected type `tie\.|not in scope|"
                    r"where one has `\S*\.Lts\.(?:Start|Else\d*|Then\d*|T\d+|After-[\w-]+)`)")
 
-# Needs that only keep the machine safe: what an operation, an index, a part or a cast asks. `add-requires` is the need of a call of `add`.
-SAFETY = re.compile(r"(?:add|sub|mul|div|rem|shl|shr|cast|int-to-float|float-\w+-\w+|slice|shared-slice|array|element|way|index|part|same-length|"
-                    r"same-references|val-home)(?:-(?!requires).*)?")
+# Needs that only keep the machine safe: what an operation, an index, a part or a cast asks. `add-requires` is what a call of `add` asks.
+SAFETY = re.compile(r"(?!.*-requires(?:-\d+)?$)(?:add|sub|mul|div|rem|shl|shr|cast|int-to-float|float-to-\w+|slice|shared-slice|array|element|"
+                    r"way|index|part|same-length|same-references|val-home)(?:-.*)?")
 
 
 @dataclass
@@ -62,7 +62,7 @@ def edits(root, crate):
 class Refusal:
     file: str     # `fn` for a function that has no proof file
     name: str     # the declaration, or the function as crate::module::name
-    fact: str     # the need that it answers, or the declaration again
+    need: str     # the need that it answers, if it does
 
 
 def first_refusal(text, place):
@@ -85,9 +85,9 @@ def declaration_at(path, line):
 
 
 def need_of(path, name):
-    """The need that a declaration of a proof answers: `tie.Need-add-i` in its signature; else its own name."""
+    """The need that a declaration of a proof answers, `add-i` where its signature has `tie.Need-add-i`; none for any other declaration."""
     found = re.search(rf"^{re.escape(name)}\s+:\s.*?\bNeed-([\w-]+)", read(path), re.M) if path.is_file() else None
-    return found[1] if found else name
+    return found[1] if found else ""
 
 
 def refusal_problems(edit, text, place):
@@ -96,21 +96,21 @@ def refusal_problems(edit, text, place):
     if not refusal:
         return ["the prover's first error was not found"]
     came = f"{refusal.file} {refusal.name if refusal.file != 'fn' else refusal.name.partition('::')[2]}"
-    came += f" {refusal.fact}" if refusal.file == "fn" else ""
+    came += f" {refusal.need}" if refusal.file == "fn" else ""
     found = []
     if not any(same_place(stated.split(), refusal) for stated in edit.refused_at):
         found.append(f"it is first refused at `{came}`, and says `{', '.join(edit.refused_at) or 'nothing'}`")
     shape = SHAPE.search(text)
     if shape:
         found.append(f"it is refused for its shape: {shape[0].removeprefix('error: ')}")
-    if SAFETY.fullmatch(refusal.fact):
-        found.append(f"it is refused for safety, at {refusal.fact}, and not for what it changes")
+    if SAFETY.fullmatch(refusal.need):
+        found.append(f"it is refused for safety, at {refusal.need}, and not for what it changes")
     return found
 
 
 def same_place(stated, refusal):
     if refusal.file == "fn":
-        return len(stated) == 3 and stated[0] == "fn" and ends_in(refusal.name, stated[1]) and stated[2] == refusal.fact
+        return len(stated) == 3 and stated[0] == "fn" and ends_in(refusal.name, stated[1]) and stated[2] == refusal.need
     return stated == [refusal.file, refusal.name]
 
 

@@ -56,7 +56,8 @@ class Report:
             if dearest:
                 print(f"== the dearest {kind}s, of {len(self.costs[kind])} in {sum(self.costs[kind].values()):.0f} s")
                 print("\n".join(f"{took:10.1f}  {name}" for name, took in dearest))
-        print("\n".join(compared(recorded(root), self)))
+        if self.mode != "quick":
+            print("\n".join(compared(recorded(root), self)))
         if self.failures:
             print("== what failed")
             print("\n".join(self.failures))
