@@ -17,11 +17,11 @@ from .checks import NO_RT, file_of
 LISTED = "tests/gate/parts.txt"
 
 
-def live(command, root):
+def live(command, root, **environment):
     """Runs a command and shows what it writes as it comes: (status, lines)."""
     lines = []
-    with subprocess.Popen(command, cwd=root, stdout=subprocess.PIPE, stderr=subprocess.STDOUT,
-                          encoding="utf-8", errors="replace") as run:
+    with subprocess.Popen(command, cwd=root, stdout=subprocess.PIPE, stderr=subprocess.STDOUT, encoding="utf-8", errors="replace",
+                          env={**environment, **os.environ}) as run:
         for line in run.stdout:
             print(line, end="")
             lines.append(line.rstrip("\n"))
@@ -36,11 +36,15 @@ def count_of(lines):
 
 # ---- proves
 
+# rt starts so many at a time, and waits for all of them before it starts the next. With two for each processor, fewer stand idle meanwhile.
+JOBS = str(min(2 * os.cpu_count(), 4))
+
+
 def proves(root, report):
     """rt ci: every crate is proved from nothing, every must-fail edit refused, every program run."""
     if not shutil.which("rt"):
         return report.fail(*NO_RT)
-    status, lines = live(["rt", "ci"], root)
+    status, lines = live(["rt", "ci"], root, RT_JOBS=JOBS)
     passed, failed, _ = count_of(lines) or (0, 0, 0)
     report.passed += passed
     judge(root, report, "rt ci", status, lines, failed)
@@ -55,7 +59,7 @@ def proves_fast(root, report):
     if not shutil.which("rt"):
         return report.fail(*NO_RT)
     subprocess.run(["rm", "-rf", root / "target"], check=True)
-    status, lines = live(["rt", "check"], root)
+    status, lines = live(["rt", "check"], root, RT_JOBS=JOBS)
     text = "\n".join(lines)
     programs = set(re.findall(r"^rt: (\w+) ran\b", text, re.M))
     libraries = [crate for crate in re.findall(r"^rt: (\w+) proved \(", text, re.M) if prover.library(root, crate).is_dir()]
