@@ -183,10 +183,17 @@ def the_theorem(repository, crate, word):
 
 # ---- edits
 
+def module_named(stated):
+    """Of `proofs/a/File.antt name`: `.proofs.a.File.name`, which ends as `File.name` and `name` do."""
+    return "." + stated.replace(".antt ", ".").replace("/", ".")
+
+
 def edit_problems(root, repository, name, functions):
     """What an edit must say, and that what it names is there. That the prover agrees is for proves to say."""
     edit = edits.edit_of(root / file_of(name))
     found = [f"it has no `# {line}:`" for line, there in (("refused at", edit.refused_at), ("harmless", edit.harmless)) if not there]
+    if any(text.split() in (old.split(), new.split()) for (_, old, new), text in zip(edit.changes, edit.harmless)):
+        found.append("its harmless neighbour is the code itself, or the edit")
     for stated in edit.refused_at:
         words, need = stated.split(), ""
         if words[:1] == ["fn"] and len(words) == 3:
@@ -240,7 +247,7 @@ def definition_problems(root, repository, edit, place, theorem):
     problems = []
     if edit not in repository.edit_files:
         problems.append((place, f"there is no {file_of(edit)}"))
-    elif not any(stated.split()[-1:] == [theorem.split(".")[-1]] for stated in edits.edit_of(root / file_of(edit)).refused_at):
+    elif not any(module_named(stated).endswith(f".{theorem}") for stated in edits.edit_of(root / file_of(edit)).refused_at):
         problems.append((place, f"{edit} does not say that {theorem} refuses it"))
     if not any(repository.theorems(crate, theorem) for crate in repository.folders):
         problems.append((place, f"there is no theorem {theorem} in specs/ or proofs/ of any crate"))

@@ -43,14 +43,20 @@ def above(root, crate):
     return found
 
 
+def is_program(root, crate):
+    return (root / "crates" / crate / "src/main.rt").is_file()
+
+
 def library(root, crate):
+    """The library that a proof leaves; a program leaves none."""
     return root / f"target/rlib/{crate}.rlib"
 
 
 def check(root, crate, place, *more):
     """What `rattle check` says of a crate that lies at a place: (exit status, text)."""
     home, own = kit()
-    words = ["--crate-name", crate, place / "src/lib.rt", "--extern", f"std={own}/rlib/std.rlib"]
+    file = place / ("src/main.rt" if is_program(root, crate) else "src/lib.rt")
+    words = ["--crate-name", crate, file, "--extern", f"std={own}/rlib/std.rlib"]
     for name in crates(root)[crate]:
         words += ["--extern", f"{name}={library(root, name) if (root / 'crates' / name).is_dir() else own / f'rlib/{name}.rlib'}"]
     words += ["-L", f"dependency={root}/target/rlib", "-L", f"dependency={own}/rlib",

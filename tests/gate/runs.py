@@ -60,12 +60,11 @@ def proves_fast(root, report):
         return report.fail(*NO_RT)
     subprocess.run(["rm", "-rf", root / "target"], check=True)
     status, lines = live(["rt", "check"], root, RT_JOBS=JOBS)
-    text = "\n".join(lines)
-    programs = set(re.findall(r"^rt: (\w+) ran\b", text, re.M))
-    libraries = [crate for crate in re.findall(r"^rt: (\w+) proved \(", text, re.M) if prover.library(root, crate).is_dir()]
-    report.passed += len(programs) + len(libraries)
+    ran = set(re.findall(r"^rt: (\w+) ran\b", "\n".join(lines), re.M))
+    proved = re.findall(r"^rt: (\w+) proved \(", "\n".join(lines), re.M)
+    report.passed += sum(crate in ran or not prover.is_program(root, crate) for crate in proved)
     judge(root, report, "rt check", status, lines)
-    for trial in trials(root, libraries):
+    for trial in trials(root, proved):
         tell(report, trial)
         if not trial.unlike:
             report.check([(file_of(trial.edit.name), what) for what in trial.problems])
@@ -161,7 +160,7 @@ def quick(root, report, crate):
             report.check(problem)
     for name in higher:
         if name not in made:
-            print(f"{name}: left out, since it has no library with checked modules ({'a program' if is_program(root, name) else 'rt check makes it'})")
+            print(f"{name}: left out, since it has no library with checked modules ({'a program' if prover.is_program(root, name) else 'rt check makes it'})")
 
 
 def over(root, crate):
@@ -171,10 +170,6 @@ def over(root, crate):
     first = re.search(r"^(\S+): error: .*", text, re.M)
     problem = [] if prover.proved(status, text) else [(f"crates/{crate}", f"not proved (exit {status}): {(first[0] if first else '')[:300]}")]
     return problem, f"{'not ' if problem else ''}proved, modules taken over {loaded}, checked {checked} ({took:.0f} s)", took
-
-
-def is_program(root, crate):
-    return (root / "crates" / crate / "src/main.rt").is_file()
 
 
 # ---- parts, sabotage
