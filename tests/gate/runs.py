@@ -65,7 +65,8 @@ def proves_fast(root, report):
     report.passed += sum(crate in ran or not prover.is_program(root, crate) for crate in proved)
     judge(root, report, "rt check", status, lines)
     for trial in trials(root, proved):
-        tell(report, trial)
+        report.costs["edit"][trial.edit.name] = round(trial.seconds, 1)
+        report.check([(file_of(trial.edit.name), what) for what in trial.unlike])
         if not trial.unlike:
             report.check([(file_of(trial.edit.name), what) for what in trial.problems])
 
@@ -128,20 +129,15 @@ def trials(root, crates, harmless=False):
             yield trial
 
 
-def harmless(root, report, crates=None):
+def harmless(root, report, crates=()):
     """The harmless neighbour of each edit is accepted: what refuses the edit is what it changes, and not that the line changed."""
     if not shutil.which("rt"):
         return report.fail(*NO_RT)
-    status, lines = live(["rt", "check", *(crates or [])], root)
-    if status:
-        return report.fail("rt check", f"it ended with status {status}")
-    for trial in trials(root, [crate for crate in crates or prover.crates(root) if prover.library(root, crate).is_dir()], harmless=True):
-        tell(report, trial)
-
-
-def tell(report, trial):
-    report.costs["edit"][trial.edit.name] = round(trial.seconds, 1)
-    report.check([(file_of(trial.edit.name), what) for what in trial.unlike])
+    proved = subprocess.run(["rt", "check", *crates], cwd=root, capture_output=True, encoding="utf-8", errors="replace")
+    if proved.returncode:
+        return report.fail("rt check", proved.stdout.rstrip("\n").split("\n")[-1])
+    for trial in trials(root, crates or prover.crates(root), harmless=True):
+        report.check([(file_of(trial.edit.name), what) for what in trial.unlike])
 
 
 def quick(root, report, crate):
