@@ -14,7 +14,8 @@ from . import prover
 from .sources import NAME, read
 
 # What the prover says when the code no longer has the shape that the proof was written for. Such an edit shows nothing of the promise.
-SHAPE = re.compile(r"error: .*(?:has no field|has no `?Need-|can be named from here|expected type `tie\.|not in scope|"
+SHAPE = re.compile(r"error: .*(?:has no field|has no `?Need-|can be named from here|not in scope|"
+                   r"expected type `tie\.\S+`, but this has type `tie\.|"
                    r"where one has `\S*\.Lts\.(?:Start|Else\d*|Then\d*|T\d+|After-[\w-]+)`)")
 
 # Needs that only keep the machine safe: what an operation, an index, a part or a cast asks. `add-requires` is what a call of `add` asks.
