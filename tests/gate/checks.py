@@ -28,6 +28,11 @@ class Repository:
         self.functions = [f for crate in self.folders for f in sources.functions(root, crate) if f.public]
         self.declared = {crate: sources.declarations(root, crate) for crate in self.folders}
         self.types = {name for crate in self.folders for name in sources.types(root, crate)}
+        self.promises = {crate: {} for crate in self.folders}  # of each promise, how many arguments it takes
+        for function in self.functions:
+            said = statements.ensured(function)
+            if said and function.name in self.rows:
+                self.promises[function.name.split("::")[0]][said.promise] = len(said.arguments)
         self.edit_files = {f"{crate}/{label}" for crate, label in
                            re.findall(r"^(\w+)/must-fail/([\w-]+)\.edit$", "\n".join(self.files), re.M)}
 
@@ -162,12 +167,11 @@ def wrong_answer_problems(repository, name, crate, promise, wrong_answers):
     count = len({answer.split(".")[-1].removeprefix("theorem:") for answer in answers})  # File.name and name are one theorem
     if count < 2:
         found.append(f"{name} names {count} wrong answers, and two are asked for")
-    promises = {cells[0] for row, (_, cells) in repository.rows.items() if row.split("::")[0] == crate}
     for kind, word in (answer.split(":", 1) for answer in sorted(answers)):
         theorem = the_theorem(repository, crate, word) if kind == "theorem" else None
         if theorem:
             problems = statements.theorem_problems(theorem, crate, promise, repository.types)
-            found += [f"{word} {what}" for what in problems + statements.wrong_problems(theorem, promise, promises)]
+            found += [f"{word} {what}" for what in problems + statements.wrong_problems(theorem, promise, repository.promises[crate])]
         elif kind == "theorem":
             found.append(f"there is no public theorem {word} in specs/ or proofs/ of {crate}")
         elif f"{crate}/{word}" not in repository.edit_files:
@@ -183,6 +187,11 @@ def the_theorem(repository, crate, word):
 
 # ---- edits
 
+def said(text):
+    """A text without what is silent, as its words."""
+    return sources.without(sources.RATTLE_SILENT, text).split()
+
+
 def module_named(stated):
     """Of `proofs/a/File.antt name`: `.proofs.a.File.name`, which ends as `File.name` and `name` do."""
     return "." + stated.replace(".antt ", ".").replace("/", ".")
@@ -192,8 +201,12 @@ def edit_problems(root, repository, name, functions):
     """What an edit must say, and that what it names is there. That the prover agrees is for proves to say."""
     edit = edits.edit_of(root / file_of(name))
     found = [f"it has no `# {line}:`" for line, there in (("refused at", edit.refused_at), ("harmless", edit.harmless)) if not there]
-    if any(text.split() in (old.split(), new.split()) for (_, old, new), text in zip(edit.changes, edit.harmless)):
+    if len(edit.refused_at) > 1:
+        found.append(f"it names {len(edit.refused_at)} places, and is refused first at one")
+    if any(said(text) in (said(old), said(new)) for (_, old, new), text in zip(edit.changes, edit.harmless)):
         found.append("its harmless neighbour is the code itself, or the edit")
+    if any(not file.startswith("src/" if functions else ("src/", "specs/")) for file, _, _ in edit.changes):
+        found.append(f"it changes {'more than the code' if functions else 'no definition'}")
     for stated in edit.refused_at:
         words, need = stated.split(), ""
         if words[:1] == ["fn"] and len(words) == 3:

@@ -211,6 +211,8 @@ def wrong_problems(declaration, promise, promises):
         found.append("does not end in `→ ⊥`")
     if not any(words[0] == promise for words in read.hypotheses):
         found.append(f"does not have {promise} as a hypothesis")
-    found += [f"has a hypothesis that is no promise: `{plain(' '.join(words))}`"
-              for words in read.hypotheses if words[0] not in promises]
+    for words in read.hypotheses:
+        given = atoms(words)[1:]
+        if promises.get(words[0]) != len(given) or {"×", "⊎", "→"} & {*given}:
+            found.append(f"has a hypothesis that is no promise: `{plain(' '.join(words))}`")
     return found
