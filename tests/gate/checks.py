@@ -187,7 +187,7 @@ def the_theorem(repository, crate, word):
 
 # ---- edits
 
-def said(text):
+def words_of(text):
     """A text without what is silent, as its words."""
     return sources.without(sources.RATTLE_SILENT, text).split()
 
@@ -203,7 +203,7 @@ def edit_problems(root, repository, name, functions):
     found = [f"it has no `# {line}:`" for line, there in (("refused at", edit.refused_at), ("harmless", edit.harmless)) if not there]
     if len(edit.refused_at) > 1:
         found.append(f"it names {len(edit.refused_at)} places, and is refused first at one")
-    if any(said(text) in (said(old), said(new)) for (_, old, new), text in zip(edit.changes, edit.harmless)):
+    if any(words_of(text) in (words_of(old), words_of(new)) for (_, old, new), text in zip(edit.changes, edit.harmless)):
         found.append("its harmless neighbour is the code itself, or the edit")
     if any(not file.startswith("src/" if functions else ("src/", "specs/")) for file, _, _ in edit.changes):
         found.append(f"it changes {'more than the code' if functions else 'no definition'}")

@@ -225,6 +225,8 @@ def declarations(root, crate):
 
 @cache
 def declared(module, text):
+    if "-}" in text:  # the end of an outer comment, whose rest would be taken for a declaration
+        raise ValueError(f"{module} has a comment within a comment")
     found, brought = [], imported(text)
     for item in items(text):
         record, signature = RECORD.match(item), SIGNATURE.match(item)
