@@ -67,6 +67,17 @@ not-in-the-field =
 pub not-constant : (r : Located) → WasLocated Bech32 (bytes "a12uel5q") r → WasLocated Bech32 (bytes "a12uql5l") r → ⊥
 not-constant r p q = let wrong : _≡_ {A = ℕ} 0 3 = cc (p, q, last-changed, fourth-changed) in omega arith
 
--- nor is one that never names a place
+pub not-always-last : WasLocated Bech32 (bytes "a12uql5l") (located.At 0) → ⊥
+not-always-last p = let wrong : _≡_ {A = ℕ} 0 3 = cc (p, fourth-changed) in omega arith
+
+-- a place where any element of the field counts as a symbol
+pub not-for-any-element : (place : ℕ) → WasLocated Bech32 (bytes "a10f58vz") (located.At place) → ⊥
+not-for-any-element place p = let wrong : _≡_ {A = ℕ} 0 1 = cc (p, not-in-the-field) in omega arith
+
+-- 21 for a string that is refused with another number
+pub not-21-for-others : WasLocated Bech32 (bytes "12uel5l") (located.Refused 21) → ⊥
+not-21-for-others p = let wrong : _≡_ {A = ℕ} 21 4 = cc (p, other-number) in omega arith
+
+-- a locator that never names a place
 pub not-always-21 : WasLocated Bech32 (bytes "a12uel5q") (located.Refused 21) → ⊥
 not-always-21 p = let wrong : _≡_ {A = ℕ} 0 1 = cc (p, last-changed) in omega arith

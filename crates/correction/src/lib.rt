@@ -8,8 +8,10 @@ use checksum::Checksum;
 use checksum::Engine;
 use decode::Parted;
 use decode::Parts;
+use fieldvec::CAPACITY;
 use fieldvec::Element;
 use fieldvec::FieldVec;
+use fieldvec::narrowed;
 use gf32_ext::Quotient;
 use gf32_ext::ROOT_GENERATOR;
 use polynomial::Root;
@@ -19,18 +21,18 @@ ghost use Prim.Native.Nat.{_^_, _≤_, _<_};
 ghost use Rattle.paper.specs.Charset.{symbol};
 ghost use Rattle.paper.specs.Checksum.{residue};
 ghost use Rattle.answers.specs.Locator.{placeVerdict};
-ghost use Rattle.gf32_ext.specs.Field.{power};
-ghost use Rattle.fieldvec.specs.Lists.{elements, listed};
+ghost use Rattle.gf32_ext.specs.Field.{fieldOrder, power};
+ghost use Rattle.fieldvec.specs.Lists.{capacity, elements, listed};
 ghost use Rattle.polynomial.specs.Polynomials.{valueAt};
 ghost use Rattle.decode.specs.Splitting.{prefixIn, dataIn};
 ghost use Rattle.correction.specs.Promises.{WasLocated};
 
 // The generator's three roots that follow one another: these powers of ROOT_GENERATOR.
-const ROOT_24: u16 = 780;
+const ROOT_24: u32 = 780;
 
-const ROOT_25: u16 = 878;
+const ROOT_25: u32 = 878;
 
-const ROOT_26: u16 = 966;
+const ROOT_26: u32 = 966;
 
 // For a string that generic reading refuses with 9: the one place, counted from the end, at which another symbol would give
 // the accepting residue. It may lie before the string's data part.
@@ -88,8 +90,8 @@ fn place_of(residue: u32, constant: u32) -> Located
     }
 }
 
-fn value_at(p: FieldVec, x: u16) -> u16
-    requires { ⌜ p .len ≤ 7 ⌝ }
+fn value_at(p: FieldVec, x: u32) -> u32
+    requires { ⌜ p .len ≤ capacity ⌝ }
     ensures { λ r. ⌜ r ≡ valueAt (elements p) x ⌝ }
 {
     let Element::Value(value) = polynomial::evaluate(p, x) else {
@@ -98,7 +100,7 @@ fn value_at(p: FieldVec, x: u16) -> u16
     value
 }
 
-fn power_24(x: u16) -> u16
+fn power_24(x: u32) -> u32
     ensures { λ r. ⌜ r ≡ power x 24 ⌝ }
 {
     let cube = gf32_ext::multiply(gf32_ext::multiply(x, x), x);
@@ -108,11 +110,12 @@ fn power_24(x: u16) -> u16
 }
 
 // x + z as a polynomial in z, of which x is the root. The Rust searches for the root of 1 + x z, whose exponent is the place taken from 1023.
-fn with_root(x: u16) -> FieldVec
+fn with_root(x: u32) -> FieldVec
+    requires { ⌜ x < fieldOrder ⌝ }
     ensures { λ r. ⌜ r ≡ listed (x ∷ 1 ∷ []) ⌝ }
 {
-    FieldVec {
-        items: [x, 1, 0, 0, 0, 0, 0],
-        len: 2,
-    }
+    let mut items = [0u16; CAPACITY];
+    items[0] = narrowed(x);
+    items[1] = 1;
+    FieldVec { items, len: 2 }
 }

@@ -3,6 +3,7 @@
 use fieldvec::Changed;
 use fieldvec::Element;
 use fieldvec::FieldVec;
+use gf32_ext::FIELD_ORDER;
 use gf32_ext::Quotient;
 use gf32_ext::ROOT_GENERATOR;
 use libc::STDOUT_FILENO;
@@ -18,14 +19,14 @@ fn main() {
 }
 
 fn multiply_all() {
-    let mut k = 0u16;
+    let mut k = 0u32;
     while k < 512 {
-        multiply_line(k * 37 % 1024, (k * 101 + 77) % 1024);
+        multiply_line(k * 37 % FIELD_ORDER, (k * 101 + 77) % FIELD_ORDER);
         k += 1;
     }
 }
 
-fn multiply_line(x: u16, y: u16) {
+fn multiply_line(x: u32, y: u32) {
     text(b"multiply");
     number(x as u64);
     number(y as u64);
@@ -34,8 +35,8 @@ fn multiply_line(x: u16, y: u16) {
 }
 
 fn invert_all() {
-    let mut y = 1u16;
-    while y < 1024 {
+    let mut y = 1u32;
+    while y < FIELD_ORDER {
         text(b"inverse");
         number(y as u64);
         quotient(gf32_ext::inverse(y));
@@ -78,10 +79,10 @@ fn polynomial_line(t: u32)
     text(b"\n");
 }
 
-fn place(t: u32) -> u16
+fn place(t: u32) -> u32
     requires { ⌜ t < 140 ⌝ }
 {
-    ((t * 53 + 9) % 1024) as u16
+    (t * 53 + 9) % FIELD_ORDER
 }
 
 // The zero polynomial's roots are all powers: none is listed.
@@ -147,7 +148,7 @@ fn coefficient(t: u32, i: u32) -> u32
     if (t + 2 * i) % 5 == 0 {
         return 0;
     }
-    (t * 389 + i * 617 + (t + i) % 13 * 211 + 1) % 1024
+    (t * 389 + i * 617 + (t + i) % 13 * 211 + 1) % FIELD_ORDER
 }
 
 // ---- the answers

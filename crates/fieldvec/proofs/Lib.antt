@@ -1,4 +1,5 @@
 pub mod Build
 pub mod Laws
 pub mod Stored
+pub mod Numbers
 pub mod Excluded

@@ -1,6 +1,6 @@
 -- Document 01, "over a narrow stored number with the field named": the stored form is narrower than the worked one, and the cast loses nothing. An
--- element that is pushed as a u32 is read back whole from its u16; and every number that the functions store is below 1024, so that widened and
--- narrowed again it is the same.
+-- element in hand is a u32. Narrowed to a u16 it is the same number, and one that is pushed is read back whole; and every number that the functions
+-- store is below 1024, so that widened and narrowed again it is the same.
 use mathlib.Core.Path.{_≡_, refl, sym, ap, ap₂, _∙_}
 use mathlib.Core.Bool.{Bool, true, false}
 use mathlib.Core.List.{List, [], _∷_, _++_, map, reverse, reverseAux}
@@ -22,8 +22,13 @@ use Rattle.fieldvec.specs.declared.Popped.{Popped}
 use Rattle.fieldvec.specs.declared.Element.the-variants as element
 use Rattle.fieldvec.specs.Lists.{elements, Narrow, listed, accepted, refused, pushed, poppedBack, poppedFront, got, pointwise, multipliedPointwise, reversed, symbolOf, lifted, powersGiven}
 use Rattle.fieldvec.specs.Numbers.{valueOfElement}
-use Rattle.fieldvec.specs.Promises.{Pushed}
+use Rattle.fieldvec.specs.Promises.{Pushed, Narrowed}
 use Rattle.fieldvec.proofs.Laws.{elements-pushed, elements-popped}
+
+-- ---- an element that is narrowed is the same number
+
+pub narrowed-whole : {v r w : ℕ} → v ≡ w → w < 1024 → Narrowed v r → r ≡ w
+narrowed-whole e small promise = promise ∙ ap (λ (n : ℕ). n % 1024) e ∙ mod-eq-of-lt small
 
 -- ---- an element that is pushed is read back whole; that the array has seven numbers is what its type says
 

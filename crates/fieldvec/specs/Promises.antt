@@ -1,8 +1,9 @@
 -- What each public function promises, and that two answers which keep the promise are equal.
 use mathlib.Core.Path.{_≡_}
 use mathlib.Core.List.{List, []}
-use Prim.Native.Nat.{ℕ}
+use Prim.Native.Nat.{ℕ, _%_}
 use Rattle.laws.proofs.Bools.{same}
+use Rattle.gf32_ext.specs.Field.{fieldOrder}
 use Rattle.fieldvec.specs.declared.FieldVec.{FieldVec}
 use Rattle.fieldvec.specs.declared.Changed.{Changed}
 use Rattle.fieldvec.specs.declared.Popped.{Popped}
@@ -79,3 +80,10 @@ PowersGiven base n r = r ≡ powersGiven base n
 
 pub powers-given-once : (base : ℕ) (n : ℕ) (r s : Changed) → PowersGiven base n r → PowersGiven base n s → r ≡ s
 powers-given-once base n r s p q = same p q
+
+-- fieldvec::narrowed
+abbrev pub Narrowed : ℕ → ℕ → Type 0
+Narrowed element r = r ≡ element % fieldOrder
+
+pub narrowed-once : (element r s : ℕ) → Narrowed element r → Narrowed element s → r ≡ s
+narrowed-once element r s p q = same p q

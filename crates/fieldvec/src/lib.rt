@@ -1,26 +1,27 @@
-// A short list of elements of GF(1024): a fixed array with a count. An element in hand may be a wider number; it is stored as a u16, by
-// its remainder modulo the field's order, and that loses nothing of it (proofs/Stored.antt). A symbol of GF(32) is the same number in
+// A short list of elements of GF(1024): a fixed array with a count. An element is worked with as a u32 and stored as a u16, by its
+// remainder modulo the field's order, and that loses nothing of it (proofs/Stored.antt). A symbol of GF(32) is the same number in
 // GF(1024), so one list serves both.
 use answers::LIST_FULL;
 use answers::LIST_PLACE;
+use gf32_ext::FIELD_ORDER;
 ghost use mathlib.Core.Path.{_≡_};
 ghost use Prim.Native.Nat.{_≤_};
 ghost use mathlib.Core.List.{[], map, reverse};
 ghost use lib.ListN.{length};
 ghost use Rattle.laws.specs.Lists.{table};
 ghost use Rattle.gf32_ext.specs.Field.{power};
-ghost use Rattle.fieldvec.specs.Lists.{listed, refused, nothing, pointwise, alike, symbolOf};
-ghost use Rattle.fieldvec.specs.Promises.{Emptied, Pushed, PoppedBack, PoppedFront, Got, Lifted, MultipliedPointwise, PowersGiven, Reversed, Compared};
+ghost use Rattle.fieldvec.specs.Lists.{capacity, listed, refused, nothing, pointwise, alike, symbolOf};
+ghost use Rattle.fieldvec.specs.Promises.{Emptied, Pushed, PoppedBack, PoppedFront, Got, Lifted, MultipliedPointwise, PowersGiven, Reversed, Compared, Narrowed};
 
 const ACCEPTED: u8 = 0;
 
-// The field that a list is over, by the number of its elements: GF(1024).
-pub const FIELD_ORDER: u16 = 1024;
+// How many elements a list has room for.
+pub const CAPACITY: usize = 7;
 
-// The first `len` of the stored numbers are the list. The fields are public, so `len` may be over 7: push then answers that the list
-// is full, and every other function refuses it as a place outside.
+// The first `len` of the stored numbers are the list. The fields are public, so `len` may be over the capacity: push then answers that
+// the list is full, and every other function refuses it as a place outside.
 pub struct FieldVec {
-    pub items: [u16; 7],
+    pub items: [u16; CAPACITY],
     pub len: usize,
 }
 
@@ -33,13 +34,13 @@ pub struct Changed {
 // An element taken off a list, and the list without it.
 pub struct Popped {
     pub number: u8,
-    pub value: u16,
+    pub value: u32,
     pub list: FieldVec,
 }
 
 // An element of a list.
 pub enum Element {
-    Value(u16),
+    Value(u32),
     Refused(u8),
 }
 
@@ -55,7 +56,7 @@ impl FieldVec {
         ensures { λ r. ⌜ Emptied r ⌝ }
     {
         FieldVec {
-            items: [0; 7],
+            items: [0; CAPACITY],
             len: 0,
         }
     }
@@ -64,14 +65,14 @@ impl FieldVec {
         ensures { λ r. ⌜ Pushed self element r ⌝ }
     {
         let at = self.len;
-        if 7 <= at {
+        if CAPACITY <= at {
             return Changed {
                 number: LIST_FULL,
                 list: self,
             };
         }
         let mut t = self;
-        t.items[at] = (element % (FIELD_ORDER as u32)) as u16;
+        t.items[at] = narrowed(element);
         t.len = at + 1;
         Changed {
             number: ACCEPTED,
@@ -87,7 +88,7 @@ impl FieldVec {
         if n == 0 {
             return nothing_popped(self);
         }
-        if 7 < n {
+        if CAPACITY < n {
             return nothing_popped(self);
         }
         let at = n - 1;
@@ -97,7 +98,7 @@ impl FieldVec {
         t.len = at;
         Popped {
             number: ACCEPTED,
-            value: v % FIELD_ORDER,
+            value: (v as u32) % FIELD_ORDER,
             list: t,
         }
     }
@@ -109,14 +110,14 @@ impl FieldVec {
         if n == 0 {
             return nothing_popped(self);
         }
-        if 7 < n {
+        if CAPACITY < n {
             return nothing_popped(self);
         }
         let items = self.items;
         let rest = copied(&items[1..n]);
         Popped {
             number: ACCEPTED,
-            value: items[0] % FIELD_ORDER,
+            value: (items[0] as u32) % FIELD_ORDER,
             list: rest,
         }
     }
@@ -125,13 +126,13 @@ impl FieldVec {
         ensures { λ r. ⌜ Got self at r ⌝ }
     {
         let n = self.len;
-        if 7 < n {
+        if CAPACITY < n {
             return Element::Refused(LIST_PLACE);
         }
         if n <= at {
             return Element::Refused(LIST_PLACE);
         }
-        Element::Value(self.items[at] % FIELD_ORDER)
+        Element::Value((self.items[at] as u32) % FIELD_ORDER)
     }
 
     pub fn multiply_pointwise(self, other: FieldVec) -> Changed
@@ -141,7 +142,7 @@ impl FieldVec {
         if n != other.len {
             return refused_place(self);
         }
-        if 7 < n {
+        if CAPACITY < n {
             return refused_place(self);
         }
         let items = self.items;
@@ -157,7 +158,7 @@ impl FieldVec {
         ensures { λ r. ⌜ Reversed self r ⌝ }
     {
         let n = self.len;
-        if 7 < n {
+        if CAPACITY < n {
             return refused_place(self);
         }
         let items = self.items;
@@ -174,10 +175,10 @@ impl FieldVec {
     {
         let n = self.len;
         let m = other.len;
-        if 7 < n {
+        if CAPACITY < n {
             return Equality::Refused(LIST_PLACE);
         }
-        if 7 < m {
+        if CAPACITY < m {
             return Equality::Refused(LIST_PLACE);
         }
         let items = self.items;
@@ -194,7 +195,7 @@ impl FieldVec {
 pub fn lift(symbols: &[u8]) -> Changed
     ensures { λ r. ⌜ Lifted (now (symbols .entry)) r ⌝ }
 {
-    if 7 < symbols.len() {
+    if CAPACITY < symbols.len() {
         return too_many();
     }
     let list = embedded(symbols);
@@ -205,10 +206,10 @@ pub fn lift(symbols: &[u8]) -> Changed
 }
 
 // The first n powers of an element, from its power 0, which is 1.
-pub fn powers(base: u16, n: usize) -> Changed
+pub fn powers(base: u32, n: usize) -> Changed
     ensures { λ r. ⌜ PowersGiven base n r ⌝ }
 {
-    if 7 < n {
+    if CAPACITY < n {
         return too_many();
     }
     let list = first_powers(base, n);
@@ -216,6 +217,13 @@ pub fn powers(base: u16, n: usize) -> Changed
         number: ACCEPTED,
         list,
     }
+}
+
+// An element in the form in which it is stored.
+pub fn narrowed(element: u32) -> u16
+    ensures { λ r. ⌜ Narrowed element r ⌝ }
+{
+    (element % FIELD_ORDER) as u16
 }
 
 // ---- the answers that refuse
@@ -251,10 +259,10 @@ fn too_many() -> Changed
 // ---- lists made from zeros, an element a turn
 
 fn copied(s: &[u16]) -> FieldVec
-    requires { ⌜ length (now s) ≤ 7 ⌝ }
+    requires { ⌜ length (now s) ≤ capacity ⌝ }
     ensures { λ r. ⌜ r ≡ listed (now (s .entry)) ⌝ }
 {
-    let mut items = [0u16; 7];
+    let mut items = [0u16; CAPACITY];
     let mut i = 0;
     while i < s.len() {
         items[i] = s[i];
@@ -264,10 +272,10 @@ fn copied(s: &[u16]) -> FieldVec
 }
 
 fn backwards(s: &[u16]) -> FieldVec
-    requires { ⌜ length (now s) ≤ 7 ⌝ }
+    requires { ⌜ length (now s) ≤ capacity ⌝ }
     ensures { λ r. ⌜ r ≡ listed (reverse (now (s .entry))) ⌝ }
 {
-    let mut items = [0u16; 7];
+    let mut items = [0u16; CAPACITY];
     let mut i = 0;
     while i < s.len() {
         items[i] = s[s.len() - 1 - i];
@@ -277,23 +285,23 @@ fn backwards(s: &[u16]) -> FieldVec
 }
 
 fn products(s: &[u16], t: &[u16]) -> FieldVec
-    requires { ⌜ (length (now s) ≤ 7) × (length (now s) ≡ length (now t)) ⌝ }
+    requires { ⌜ (length (now s) ≤ capacity) × (length (now s) ≡ length (now t)) ⌝ }
     ensures { λ r. ⌜ r ≡ listed (pointwise (now (s .entry)) (now (t .entry))) ⌝ }
 {
-    let mut items = [0u16; 7];
+    let mut items = [0u16; CAPACITY];
     let mut i = 0;
     while i < s.len() {
-        items[i] = gf32_ext::multiply(s[i], t[i]);
+        items[i] = narrowed(gf32_ext::multiply(s[i] as u32, t[i] as u32));
         i += 1;
     }
     FieldVec { items, len: i }
 }
 
 fn embedded(s: &[u8]) -> FieldVec
-    requires { ⌜ length (now s) ≤ 7 ⌝ }
+    requires { ⌜ length (now s) ≤ capacity ⌝ }
     ensures { λ r. ⌜ r ≡ listed (map symbolOf (now (s .entry))) ⌝ }
 {
-    let mut items = [0u16; 7];
+    let mut items = [0u16; CAPACITY];
     let mut i = 0;
     while i < s.len() {
         items[i] = embed(s[i]);
@@ -308,15 +316,15 @@ fn embed(symbol: u8) -> u16
     (symbol % 32) as u16
 }
 
-fn first_powers(base: u16, n: usize) -> FieldVec
-    requires { ⌜ n ≤ 7 ⌝ }
+fn first_powers(base: u32, n: usize) -> FieldVec
+    requires { ⌜ n ≤ capacity ⌝ }
     ensures { λ r. ⌜ r ≡ listed (table (power base) n) ⌝ }
 {
-    let mut items = [0u16; 7];
-    let mut next = 1u16;
+    let mut items = [0u16; CAPACITY];
+    let mut next = 1u32;
     let mut i = 0;
     while i < n {
-        items[i] = next;
+        items[i] = narrowed(next);
         next = gf32_ext::multiply(base, next);
         i += 1;
     }
@@ -331,7 +339,7 @@ fn matches(s: &[u16], t: &[u16]) -> bool
     }
     let mut i = 0;
     while i < s.len() {
-        if s[i] % FIELD_ORDER != t[i] % FIELD_ORDER {
+        if (s[i] as u32) % FIELD_ORDER != (t[i] as u32) % FIELD_ORDER {
             return false;
         }
         i += 1;

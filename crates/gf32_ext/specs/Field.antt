@@ -9,6 +9,10 @@ use Rattle.gf32.specs.Field.{sum as sum32, product as product32}
 use Rattle.gf32_ext.specs.declared.Quotient.{Quotient}
 use Rattle.gf32_ext.specs.declared.Quotient.the-variants.{Value, Refused}
 
+-- how many elements the field has
+abbrev pub fieldOrder : ℕ
+fieldOrder = 1024
+
 -- the two coefficients of an element, each of GF(32), and the element that has them
 abbrev pub low : ℕ → ℕ
 low x = x % 32
@@ -30,16 +34,16 @@ product x y =
     (sum32 (product32 (low x) (low y)) (product32 (high x) (high y)))
     (sum32 (sum32 (product32 (low x) (high y)) (product32 (high x) (low y))) (product32 (high x) (high y)))
 
--- the number below 1024 whose product with y is 1; 1024 where there is none, as for 0
+-- the number below the field's order whose product with y is 1; the order where there is none, as for 0
 unfoldable pub inverse : ℕ → ℕ
-inverse y = firstBelow 1024 (λ x. eqb (product x y) 1)
+inverse y = firstBelow fieldOrder (λ x. eqb (product x y) 1)
 
 -- document 01, answer 27: zero has no inverse, and no division by zero has a value, whatever is divided
 unfoldable pub inverseOf : ℕ → Quotient
-inverseOf y = pick (eqb (y % 1024) 0) (Refused 27) (Value (inverse y))
+inverseOf y = pick (eqb (y % fieldOrder) 0) (Refused 27) (Value (inverse y))
 
 unfoldable pub quotient : ℕ → ℕ → Quotient
-quotient x y = pick (eqb (y % 1024) 0) (Refused 27) (Value (product x (inverse y)))
+quotient x y = pick (eqb (y % fieldOrder) 0) (Refused 27) (Value (product x (inverse y)))
 
 -- x multiplied with itself, n times x in all
 unfoldable pub power : ℕ → ℕ → ℕ

@@ -10,6 +10,7 @@ use lib.ListN.{length, take, drop, getD, replicate}
 use Rattle.laws.specs.Lists.{all, tableFrom}
 use Rattle.laws.proofs.Tables.{tabulated}
 use Rattle.gf32_ext.specs.Field.{sum, product}
+use Rattle.gf32_ext.proofs.Field.{sum-lt}
 use Rattle.fieldvec.specs.Lists.{listed, accepted, refused}
 use Rattle.laws.proofs.Front.{front}
 use Rattle.fieldvec.specs.declared.FieldVec.{FieldVec}
@@ -35,6 +36,10 @@ module _ (a b : List ℕ) (k : ℕ) where
   pub part-all : (i : ℕ) → i ≡ k + 1 → partSum a b k i ≡ coefficient a b k
   unfolding partSum coefficient
   part-all i e = ap (partSum a b k) (e ∙ add-one k)
+
+pub coefficient-lt : (a b : List ℕ) (k : ℕ) → coefficient a b k < 1024
+unfolding coefficient sumBelow
+coefficient-lt a b k = sum-lt _ _
 
 -- ---- the coefficients from a place on
 

@@ -4,3 +4,4 @@ pub mod Trim
 pub mod Coefficients
 pub mod Chien
 pub mod Examples
+pub mod Numbers

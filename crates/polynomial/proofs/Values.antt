@@ -60,7 +60,7 @@ total-more s n h k =
 
 -- ---- multiples
 
-multiple-lt : (n c : ℕ) → multiple n c < 1024
+pub multiple-lt : (n c : ℕ) → multiple n c < 1024
 unfolding multiple
 multiple-lt zero c = lit< tt
 multiple-lt (suc n) c = sum-lt c (multiple n c)

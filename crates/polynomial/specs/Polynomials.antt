@@ -1,5 +1,5 @@
 -- Document 01, module 4: polynomials over GF(1024). A list of coefficients c_0, c_1, .. means the sum of c_i x^i; the empty list is the zero
--- polynomial. A coefficient over 1023 counts by its remainder, as every element does.
+-- polynomial. A coefficient counts by its remainder modulo the field's order, as every element does.
 use mathlib.Core.Bool.{Bool}
 use mathlib.Core.List.{List, [], _∷_, reverse}
 use Prim.Native.Nat.{ℕ, zero, suc, _%_}
@@ -8,10 +8,10 @@ use lib.ListN.{getD, drop}
 use Rattle.laws.specs.Pick.{pick}
 use Rattle.laws.specs.Lists.{all}
 use Rattle.paper.specs.Checksum.{sixSymbols}
-use Rattle.gf32_ext.specs.Field.{sum, product, power}
+use Rattle.gf32_ext.specs.Field.{fieldOrder, sum, product, power}
 
 abbrev pub isZero : ℕ → Bool
-isZero c = eqb (c % 1024) 0
+isZero c = eqb (c % fieldOrder) 0
 
 -- the highest place of a coefficient other than zero; 0 for the zero polynomial
 unfoldable pub degree : List ℕ → ℕ
@@ -20,7 +20,7 @@ degree (c ∷ cs) = pick (all isZero cs) 0 (suc (degree cs))
 
 -- the coefficient at that place
 unfoldable pub leading : List ℕ → ℕ
-leading cs = getD cs (degree cs) 0 % 1024
+leading cs = getD cs (degree cs) 0 % fieldOrder
 
 -- the sum of c_i x^i over the coefficients given, the first of which is c_k
 unfoldable pub valueFrom : ℕ → List ℕ → ℕ → ℕ
@@ -34,7 +34,7 @@ valueAt cs x = valueFrom 0 cs x
 abbrev pub isRoot : List ℕ → ℕ → Bool
 isRoot cs x = eqb (valueAt cs x) 0
 
--- without the zeros at the end, which do not change what the list means; for coefficients below 1024
+-- without the zeros at the end, which do not change what the list means; for coefficients below the field's order
 unfoldable pub trimmed : List ℕ → List ℕ
 trimmed [] = []
 trimmed (c ∷ cs) = pick (all (λ a. eqb a 0) (c ∷ cs)) [] (c ∷ trimmed cs)

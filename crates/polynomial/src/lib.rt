@@ -1,28 +1,32 @@
 // Polynomials over GF(1024): a FieldVec's elements are the coefficients, the constant term first, and the empty list is the zero
-// polynomial. A FieldVec whose count is over 7 is refused with 26.
+// polynomial. A FieldVec whose count is over its capacity is refused with 26. An element is worked with as a u32; a polynomial that is
+// made stores it as a u16, which loses nothing of it: each is below the field's order.
 use answers::DIVISION_BY_ZERO;
 use answers::LIST_FULL;
 use answers::LIST_PLACE;
+use fieldvec::CAPACITY;
 use fieldvec::Changed;
 use fieldvec::Element;
 use fieldvec::FieldVec;
+use fieldvec::narrowed;
+use gf32_ext::FIELD_ORDER;
 ghost use mathlib.Core.Path.{_≡_};
 ghost use mathlib.Core.List.{[], _++_};
-ghost use Prim.Native.Nat.{_+_, _-_, _≤_, _<_, _%_, min};
+ghost use Prim.Native.Nat.{_+_, _-_, _*_, _≤_, _<_, _%_, min};
 ghost use lib.Dec.{eqb};
 ghost use lib.ListN.{length, getD, drop, replicate};
 ghost use Rattle.laws.specs.Lists.{all};
-ghost use Rattle.gf32_ext.specs.Field.{power};
-ghost use Rattle.fieldvec.specs.Lists.{elements, listed, refused};
+ghost use Rattle.gf32_ext.specs.Field.{fieldOrder, power};
+ghost use Rattle.fieldvec.specs.Lists.{capacity, elements, listed, refused};
 ghost use Rattle.polynomial.specs.Polynomials.{degree, valueAt, trimmed, multiple, derivative};
 ghost use Rattle.polynomial.specs.Products.{coefficient, coefficientsFrom, productModulo, convolved};
-ghost use Rattle.polynomial.specs.Answers.{fitting, rootFrom};
+ghost use Rattle.polynomial.specs.Answers.{fitting, groupOrder, rootFrom};
 ghost use Rattle.polynomial.specs.Promises.{DegreeGiven, LeadingGiven, ZeroAsked, Evaluated, Derived, Multiplied, Convolved, FromResidue, RootFound};
 
 const ACCEPTED: u8 = 0;
 
-// The order of GF(1024)'s multiplicative group: exponents of a base below it give each of its powers.
-const ORDER: usize = 1023;
+// The order of the field's multiplicative group: exponents of a base below it give each of its powers.
+const GROUP_ORDER: usize = FIELD_ORDER as usize - 1;
 
 pub enum Exponent {
     Value(usize),
@@ -47,7 +51,7 @@ pub fn degree(p: FieldVec) -> Exponent
     ensures { λ r. ⌜ DegreeGiven p r ⌝ }
 {
     let n = p.len;
-    if 7 < n {
+    if CAPACITY < n {
         return Exponent::Refused(LIST_PLACE);
     }
     let items = p.items;
@@ -59,7 +63,7 @@ pub fn leading_term(p: FieldVec) -> Element
     ensures { λ r. ⌜ LeadingGiven p r ⌝ }
 {
     let n = p.len;
-    if 7 < n {
+    if CAPACITY < n {
         return Element::Refused(LIST_PLACE);
     }
     let items = p.items;
@@ -71,22 +75,22 @@ pub fn zero_is_root(p: FieldVec) -> Truth
     ensures { λ r. ⌜ ZeroAsked p r ⌝ }
 {
     let n = p.len;
-    if 7 < n {
+    if CAPACITY < n {
         return Truth::Refused(LIST_PLACE);
     }
     let items = p.items;
-    if coefficient_at(&items[..n], 0) % 1024 == 0 {
+    if coefficient_at(&items[..n], 0) % FIELD_ORDER == 0 {
         Truth::Yes
     } else {
         Truth::No
     }
 }
 
-pub fn evaluate(p: FieldVec, x: u16) -> Element
+pub fn evaluate(p: FieldVec, x: u32) -> Element
     ensures { λ r. ⌜ Evaluated p x r ⌝ }
 {
     let n = p.len;
-    if 7 < n {
+    if CAPACITY < n {
         return Element::Refused(LIST_PLACE);
     }
     let items = p.items;
@@ -97,7 +101,7 @@ pub fn formal_derivative(p: FieldVec) -> Changed
     ensures { λ r. ⌜ Derived p r ⌝ }
 {
     let n = p.len;
-    if 7 < n {
+    if CAPACITY < n {
         return refused_with(LIST_PLACE);
     }
     let items = p.items;
@@ -108,16 +112,16 @@ pub fn formal_derivative(p: FieldVec) -> Changed
     }
 }
 
-// The product modulo x^d. It is too long only if its own coefficients, without zeros at the end, are more than 7.
+// The product modulo x^d. It is too long only if its own coefficients, without zeros at the end, are more than a list has room for.
 pub fn multiply_mod_x_d(p: FieldVec, q: FieldVec, d: usize) -> Changed
     ensures { λ r. ⌜ Multiplied p q d r ⌝ }
 {
     let n = p.len;
     let m = q.len;
-    if 7 < n {
+    if CAPACITY < n {
         return refused_with(LIST_PLACE);
     }
-    if 7 < m {
+    if CAPACITY < m {
         return refused_with(LIST_PLACE);
     }
     let a = p.items;
@@ -131,10 +135,10 @@ pub fn convolution(p: FieldVec, q: FieldVec) -> Changed
 {
     let n = p.len;
     let m = q.len;
-    if 7 < n {
+    if CAPACITY < n {
         return refused_with(LIST_PLACE);
     }
-    if 7 < m {
+    if CAPACITY < m {
         return refused_with(LIST_PLACE);
     }
     let a = p.items;
@@ -162,22 +166,22 @@ pub fn from_residue(residue: u32) -> FieldVec
     FieldVec { items, len: 6 }
 }
 
-// The first exponent from `from` on, below 1023, whose power of the base is a root.
-pub fn first_root(p: FieldVec, base: u16, from: usize) -> Root
+// The first exponent from `from` on, below the group's order, whose power of the base is a root.
+pub fn first_root(p: FieldVec, base: u32, from: usize) -> Root
     ensures { λ r. ⌜ RootFound p base from r ⌝ }
 {
     let n = p.len;
-    if 7 < n {
+    if CAPACITY < n {
         return Root::Refused(LIST_PLACE);
     }
-    if base % 1024 == 0 {
+    if base % FIELD_ORDER == 0 {
         return Root::Refused(DIVISION_BY_ZERO);
     }
-    if ORDER <= from {
+    if GROUP_ORDER <= from {
         return Root::None;
     }
     let found = root_from(p, base, from);
-    if found < ORDER {
+    if found < GROUP_ORDER {
         Root::At(found)
     } else {
         Root::None
@@ -195,11 +199,11 @@ fn refused_with(number: u8) -> Changed
 
 // ---- one polynomial
 
-fn coefficient_at(s: &[u16], k: usize) -> u16
+fn coefficient_at(s: &[u16], k: usize) -> u32
     ensures { λ r. ⌜ r ≡ getD (now (s .entry)) k 0 ⌝ }
 {
     if k < s.len() {
-        return s[k];
+        return s[k] as u32;
     }
     0
 }
@@ -209,7 +213,7 @@ fn degree_of(s: &[u16]) -> usize
 {
     let mut n = s.len();
     while 1 < n {
-        if s[n - 1] % 1024 != 0 {
+        if (s[n - 1] as u32) % FIELD_ORDER != 0 {
             return n - 1;
         }
         n -= 1;
@@ -217,52 +221,52 @@ fn degree_of(s: &[u16]) -> usize
     0
 }
 
-fn leading_of(s: &[u16]) -> u16
-    ensures { λ r. ⌜ r ≡ getD (now (s .entry)) (degree (now (s .entry))) 0 % 1024 ⌝ }
+fn leading_of(s: &[u16]) -> u32
+    ensures { λ r. ⌜ r ≡ getD (now (s .entry)) (degree (now (s .entry))) 0 % fieldOrder ⌝ }
 {
-    coefficient_at(s, degree_of(s)) % 1024
+    coefficient_at(s, degree_of(s)) % FIELD_ORDER
 }
 
 // Horner's rule, from the highest coefficient down.
-fn value_of(s: &[u16], x: u16) -> u16
+fn value_of(s: &[u16], x: u32) -> u32
     ensures { λ r. ⌜ r ≡ valueAt (now (s .entry)) x ⌝ }
 {
-    let mut value = 0u16;
+    let mut value = 0u32;
     let mut n = s.len();
     while 0 < n {
-        value = gf32_ext::add(gf32_ext::multiply(x, value), s[n - 1]);
+        value = gf32_ext::add(gf32_ext::multiply(x, value), s[n - 1] as u32);
         n -= 1;
     }
     value
 }
 
 fn derived(s: &[u16]) -> FieldVec
-    requires { ⌜ length (now s) ≤ 7 ⌝ }
+    requires { ⌜ length (now s) ≤ capacity ⌝ }
     ensures { λ r. ⌜ r ≡ listed (derivative (now (s .entry))) ⌝ }
 {
-    let mut items = [0u16; 7];
+    let mut items = [0u16; CAPACITY];
     let mut i = 0;
     while i + 1 < s.len() {
-        items[i] = multiple_of(i + 1, s[i + 1]);
+        items[i] = narrowed(multiple_of(i + 1, s[i + 1] as u32));
         i += 1;
     }
     trimmed_list(items)
 }
 
 // In characteristic 2 an even number of times is zero.
-fn multiple_of(n: usize, c: u16) -> u16
+fn multiple_of(n: usize, c: u32) -> u32
     ensures { λ r. ⌜ r ≡ multiple n c ⌝ }
 {
     if n % 2 == 0 {
         return 0;
     }
-    c % 1024
+    c % FIELD_ORDER
 }
 
-fn trimmed_list(items: [u16; 7]) -> FieldVec
+fn trimmed_list(items: [u16; CAPACITY]) -> FieldVec
     ensures { λ r. ⌜ r ≡ listed (trimmed items) ⌝ }
 {
-    let mut n = 7;
+    let mut n = CAPACITY;
     while 0 < n {
         if items[n - 1] != 0 {
             return FieldVec { items, len: n };
@@ -280,11 +284,11 @@ fn low_symbol(x: u32) -> u16
 
 // ---- two polynomials
 
-fn coefficient_of(a: &[u16], b: &[u16], k: usize) -> u16
-    requires { ⌜ k < 14 ⌝ }
+fn coefficient_of(a: &[u16], b: &[u16], k: usize) -> u32
+    requires { ⌜ k < 2 * capacity ⌝ }
     ensures { λ r. ⌜ r ≡ coefficient (now (a .entry)) (now (b .entry)) k ⌝ }
 {
-    let mut total = 0u16;
+    let mut total = 0u32;
     let mut i = 0;
     while i <= k {
         let crossed = gf32_ext::multiply(coefficient_at(a, i), coefficient_at(b, k - i));
@@ -295,25 +299,25 @@ fn coefficient_of(a: &[u16], b: &[u16], k: usize) -> u16
 }
 
 // The coefficients of x^d and after it, n of them, and zeros.
-fn coefficients_from(a: &[u16], b: &[u16], d: usize, n: usize) -> [u16; 7]
-    requires { ⌜ (d ≤ 7) × (n ≤ 7) ⌝ }
-    ensures { λ r. ⌜ r ≡ coefficientsFrom (now (a .entry)) (now (b .entry)) d n ++ replicate (7 - n) 0 ⌝ }
+fn coefficients_from(a: &[u16], b: &[u16], d: usize, n: usize) -> [u16; CAPACITY]
+    requires { ⌜ (d ≤ capacity) × (n ≤ capacity) ⌝ }
+    ensures { λ r. ⌜ r ≡ coefficientsFrom (now (a .entry)) (now (b .entry)) d n ++ replicate (capacity - n) 0 ⌝ }
 {
-    let mut items = [0u16; 7];
+    let mut items = [0u16; CAPACITY];
     let mut j = 0;
     while j < n {
-        items[j] = coefficient_of(a, b, d + j);
+        items[j] = narrowed(coefficient_of(a, b, d + j));
         j += 1;
     }
     items
 }
 
-// Whether all coefficients from x^7 on, of the first n, are zero.
+// Whether all coefficients for which a list has no room, of the first n, are zero.
 fn rest_is_zero(a: &[u16], b: &[u16], n: usize) -> bool
-    requires { ⌜ n ≤ 14 ⌝ }
-    ensures { λ r. ⌜ r ≡ all (λ c. eqb c 0) (drop 7 (coefficientsFrom (now (a .entry)) (now (b .entry)) 0 n)) ⌝ }
+    requires { ⌜ n ≤ 2 * capacity ⌝ }
+    ensures { λ r. ⌜ r ≡ all (λ c. eqb c 0) (drop capacity (coefficientsFrom (now (a .entry)) (now (b .entry)) 0 n)) ⌝ }
 {
-    let mut k = 7;
+    let mut k = CAPACITY;
     while k < n {
         if coefficient_of(a, b, k) != 0 {
             return false;
@@ -333,12 +337,12 @@ fn smaller(x: usize, y: usize) -> usize
 }
 
 fn product_of(a: &[u16], b: &[u16], d: usize) -> Changed
-    requires { ⌜ (length (now a) ≤ 7) × (length (now b) ≤ 7) ⌝ }
+    requires { ⌜ (length (now a) ≤ capacity) × (length (now b) ≤ capacity) ⌝ }
     ensures { λ r. ⌜ r ≡ fitting (productModulo (now (a .entry)) (now (b .entry)) d) ⌝ }
 {
     let n = smaller(d, a.len() + b.len());
     if rest_is_zero(a, b, n) {
-        let items = coefficients_from(a, b, 0, smaller(n, 7));
+        let items = coefficients_from(a, b, 0, smaller(n, CAPACITY));
         let list = trimmed_list(items);
         return Changed {
             number: ACCEPTED,
@@ -349,13 +353,13 @@ fn product_of(a: &[u16], b: &[u16], d: usize) -> Changed
 }
 
 fn convolution_of(a: &[u16], s: &[u16]) -> FieldVec
-    requires { ⌜ (length (now a) ≤ 7) × (length (now s) ≤ 7) ⌝ }
+    requires { ⌜ (length (now a) ≤ capacity) × (length (now s) ≤ capacity) ⌝ }
     ensures { λ r. ⌜ r ≡ listed (convolved (now (a .entry)) (now (s .entry))) ⌝ }
 {
     let d = degree_of(a);
     if s.len() <= d {
         return FieldVec {
-            items: [0; 7],
+            items: [0; CAPACITY],
             len: 1,
         };
     }
@@ -366,8 +370,8 @@ fn convolution_of(a: &[u16], s: &[u16]) -> FieldVec
 
 // ---- the search for a root (Chien): the terms c_i x^i at x = base^e are kept, and each is multiplied by base^i for the next exponent
 
-fn root_from(p: FieldVec, base: u16, from: usize) -> usize
-    requires { ⌜ (p .len ≤ 7) × (from < 1023) ⌝ }
+fn root_from(p: FieldVec, base: u32, from: usize) -> usize
+    requires { ⌜ (p .len ≤ capacity) × (from < groupOrder) ⌝ }
     ensures { λ r. ⌜ r ≡ rootFrom (elements p) base from ⌝ }
 {
     let n = p.len;
@@ -378,7 +382,7 @@ fn root_from(p: FieldVec, base: u16, from: usize) -> usize
     let first = p.multiply_pointwise(start);
     let mut terms = first.list;
     let mut e = from;
-    while e < ORDER {
+    while e < GROUP_ORDER {
         if sum_of(terms) == 0 {
             return e;
         }
@@ -389,10 +393,10 @@ fn root_from(p: FieldVec, base: u16, from: usize) -> usize
     e
 }
 
-fn power_of(base: u16, n: usize) -> u16
+fn power_of(base: u32, n: usize) -> u32
     ensures { λ r. ⌜ r ≡ power base n ⌝ }
 {
-    let mut value = 1u16;
+    let mut value = 1u32;
     let mut i = 0;
     while i < n {
         value = gf32_ext::multiply(base, value);
@@ -402,8 +406,8 @@ fn power_of(base: u16, n: usize) -> u16
 }
 
 // The sum of the terms, which is the value at 1.
-fn sum_of(terms: FieldVec) -> u16
-    requires { ⌜ terms .len ≤ 7 ⌝ }
+fn sum_of(terms: FieldVec) -> u32
+    requires { ⌜ terms .len ≤ capacity ⌝ }
     ensures { λ r. ⌜ r ≡ valueAt (elements terms) 1 ⌝ }
 {
     let n = terms.len;
@@ -411,13 +415,13 @@ fn sum_of(terms: FieldVec) -> u16
     total_of(&items[..n])
 }
 
-fn total_of(s: &[u16]) -> u16
+fn total_of(s: &[u16]) -> u32
     ensures { λ r. ⌜ r ≡ valueAt (now (s .entry)) 1 ⌝ }
 {
-    let mut total = 0u16;
+    let mut total = 0u32;
     let mut n = s.len();
     while 0 < n {
-        total = gf32_ext::add(s[n - 1], total);
+        total = gf32_ext::add(s[n - 1] as u32, total);
         n -= 1;
     }
     total

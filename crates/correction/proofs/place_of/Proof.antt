@@ -124,7 +124,7 @@ returns-4 c =
     ))
 
 with-root-requires : tie.Need-with-root-requires
-with-root-requires c κs = search needs
+with-root-requires c κs = quotient-lt _ _ _ (divided (c .before .before .before .before .before .before .before .before))
 
 first-root-requires : tie.Need-first-root-requires
 first-root-requires c κs = search needs

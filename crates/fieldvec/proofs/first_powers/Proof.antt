@@ -1,5 +1,5 @@
 -- The powers of an element, made from zeros. The invariant: as many as were passed stand in their places, and the next is at hand.
-use Rattle.gf32_ext.proofs.Powers.{power-none, power-more}
+use Rattle.gf32_ext.proofs.Powers.{power-lt, power-none, power-more}
 use mathlib.Core.Path.{_≡_, refl, sym, ap, _∙_}
 use Prim.Native.Nat.{_-_, _≤_}
 use native.Mathlib.Omega.{arith}
@@ -9,6 +9,7 @@ use Rattle.laws.proofs.Front.{front}
 use Rattle.laws.proofs.Tables.{tabulated}
 use Rattle.gf32_ext.specs.Field.{product, power}
 use Rattle.fieldvec.proofs.Build.{zeros, fill-more, fill-all, table-length}
+use Rattle.fieldvec.proofs.Stored.{narrowed-whole}
 use borrow.Author.Needs.{needs}
 use Rattle.fieldvec.proofs.first_powers.Statement.{statement}
 use Rattle.fieldvec.proofs.first_powers.Tie as tie
@@ -21,6 +22,9 @@ abbrev μ-loop : tie.MeasureT-loop
 
 loop-holds : tie.Need-loop-holds Inv-loop μ-loop
 loop-holds c = (search needs, refl, sym (power-none (c .args .base)))
+
+narrowed-requires : tie.Need-narrowed-requires Inv-loop μ-loop
+narrowed-requires c κs = search needs
 
 mul-items : tie.Need-mul-items Inv-loop μ-loop
 mul-items c = search needs
@@ -39,12 +43,13 @@ loop-less c = search needs
 
 loop-again : tie.Need-loop-again Inv-loop μ-loop
 loop-again c =
-    let same = table-length (power (c .before .before .before .args .base)) (c .before .before .before .args .n) in (
+    let same = table-length (power (c .before .before .before .before .args .base)) (c .before .before .before .before .args .n) in (
       search needs,
-      fill-more (table (power (c .before .before .before .args .base)) (c .before .before .before .args .n)) (omega arith) (c .before .before .loop .i) (c .before .before .loop .inv .1) (omega arith)
-          (c .before .before .loop .inv .2 ∙ sym (tabulated (power (c .before .before .before .args .base)) (c .before .before .before .args .n) (c .before .before .loop .i) (search needs))),
-      c .multiply .ensures ∙ ap (product (c .before .before .before .args .base)) (c .before .before .loop .inv .2) ∙ sym (power-more (c .before .before .before .args .base) (c .before .before .loop .i))
-          ∙ ap (power (c .before .before .before .args .base)) (sym (add-one (c .before .before .loop .i))),
+      fill-more (table (power (c .before .before .before .before .args .base)) (c .before .before .before .before .args .n)) (omega arith) (c .before .before .before .loop .i) (c .before .before .before .loop .inv .1) (omega arith)
+          (narrowed-whole (c .before .before .before .loop .inv .2) (power-lt (c .before .before .before .before .args .base) (c .before .before .before .loop .i)) (c .before .narrowed .ensures)
+          ∙ sym (tabulated (power (c .before .before .before .before .args .base)) (c .before .before .before .before .args .n) (c .before .before .before .loop .i) (search needs))),
+      c .multiply .ensures ∙ ap (product (c .before .before .before .before .args .base)) (c .before .before .before .loop .inv .2) ∙ sym (power-more (c .before .before .before .before .args .base) (c .before .before .before .loop .i))
+          ∙ ap (power (c .before .before .before .before .args .base)) (sym (add-one (c .before .before .before .loop .i))),
     )
 
 returns : tie.Need-returns Inv-loop μ-loop
@@ -59,6 +64,7 @@ first-powers-spec =
     Inv-loop
     μ-loop
     loop-holds
+    narrowed-requires
     mul-items
     array-write-items
     multiply-requires

@@ -27,11 +27,17 @@ mul-if2 c = search needs
 shared-slice-read-if2 : tie.Need-shared-slice-read-if2 Inv-loop μ-loop
 shared-slice-read-if2 c = search needs
 
+cast-if2 : tie.Need-cast-if2 Inv-loop μ-loop
+cast-if2 c = omega (arith, c .shared-slice-known .given (c .before .before .loop .i))
+
 mul-if2-2 : tie.Need-mul-if2-2 Inv-loop μ-loop
 mul-if2-2 c = search needs
 
 shared-slice-read-if2-2 : tie.Need-shared-slice-read-if2-2 Inv-loop μ-loop
 shared-slice-read-if2-2 c = search needs
+
+cast-if2-2 : tie.Need-cast-if2-2 Inv-loop μ-loop
+cast-if2-2 c = omega (arith, c .shared-slice-known2 .given (c .before .before .before .loop .i))
 
 returns-2 : tie.Need-returns-2 Inv-loop μ-loop
 returns-2 c = alike-stop (c .before .before .before .before .before .before .args .s .now) (c .before .before .before .before .before .before .args .t .now) (c .before .before .before .before .loop .i) (search needs) (omega arith) (c .if2 .taken) ∙ c .before .before .before .before .loop .inv .2
@@ -62,8 +68,10 @@ matches-spec =
     loop-holds
     mul-if2
     shared-slice-read-if2
+    cast-if2
     mul-if2-2
     shared-slice-read-if2-2
+    cast-if2-2
     returns-2
     add-i
     loop-less

@@ -4,8 +4,10 @@ use Prim.Native.Nat.{_-_, _≤_}
 use native.Mathlib.Omega.{arith}
 use lib.ListN.{length}
 use Rattle.laws.proofs.Front.{front}
+use Rattle.gf32_ext.proofs.Field.{product-lt}
 use Rattle.fieldvec.specs.Lists.{pointwise}
 use Rattle.fieldvec.proofs.Build.{zeros, fill-more, fill-all, pointwise-length, pointwise-at}
+use Rattle.fieldvec.proofs.Stored.{narrowed-whole}
 use borrow.Author.Needs.{needs}
 use Rattle.fieldvec.proofs.products.Statement.{statement}
 use Rattle.fieldvec.proofs.products.Tie as tie
@@ -25,14 +27,23 @@ mul-multiply c = search needs
 shared-slice-read-multiply : tie.Need-shared-slice-read-multiply Inv-loop μ-loop
 shared-slice-read-multiply c = search needs
 
+cast-multiply : tie.Need-cast-multiply Inv-loop μ-loop
+cast-multiply c = omega (arith, c .shared-slice-known3 .given (c .before .before .loop .i))
+
 mul-multiply-2 : tie.Need-mul-multiply-2 Inv-loop μ-loop
 mul-multiply-2 c = search needs
 
 shared-slice-read-multiply-2 : tie.Need-shared-slice-read-multiply-2 Inv-loop μ-loop
 shared-slice-read-multiply-2 c = search needs
 
+cast-multiply-2 : tie.Need-cast-multiply-2 Inv-loop μ-loop
+cast-multiply-2 c = omega (arith, c .shared-slice-known4 .given (c .before .before .before .loop .i))
+
 multiply-requires : tie.Need-multiply-requires Inv-loop μ-loop
 multiply-requires c κs = search needs
+
+narrowed-requires : tie.Need-narrowed-requires Inv-loop μ-loop
+narrowed-requires c κs = search needs
 
 mul-items : tie.Need-mul-items Inv-loop μ-loop
 mul-items c = search needs
@@ -48,10 +59,11 @@ loop-less c = search needs
 
 loop-again : tie.Need-loop-again Inv-loop μ-loop
 loop-again c =
-    let same = pointwise-length (c .before .before .before .before .before .before .before .args .s .now) (c .before .before .before .before .before .before .before .args .t .now) (c .before .before .before .before .before .before .before .pre .1) in (
+    let same = pointwise-length (c .before .before .before .before .before .before .before .before .args .s .now) (c .before .before .before .before .before .before .before .before .args .t .now) (c .before .before .before .before .before .before .before .before .pre .1) in (
       search needs,
-      fill-more (pointwise (c .before .before .before .before .before .before .before .args .s .now) (c .before .before .before .before .before .before .before .args .t .now)) (omega arith) (c .before .before .before .before .loop .i) (c .before .before .before .before .loop .inv .1) (omega arith)
-          (c .multiply .ensures ∙ sym (pointwise-at (c .before .before .before .before .before .before .before .args .s .now) (c .before .before .before .before .before .before .before .args .t .now) (c .before .before .before .before .before .before .before .pre .1) (c .before .before .before .before .loop .i) (search needs))),
+      fill-more (pointwise (c .before .before .before .before .before .before .before .before .args .s .now) (c .before .before .before .before .before .before .before .before .args .t .now)) (omega arith) (c .before .before .before .before .before .loop .i) (c .before .before .before .before .before .loop .inv .1) (omega arith)
+          (narrowed-whole (c .before .multiply .ensures) (product-lt _ _) (c .narrowed .ensures)
+          ∙ sym (pointwise-at (c .before .before .before .before .before .before .before .before .args .s .now) (c .before .before .before .before .before .before .before .before .args .t .now) (c .before .before .before .before .before .before .before .before .pre .1) (c .before .before .before .before .before .loop .i) (search needs))),
     )
 
 returns : tie.Need-returns Inv-loop μ-loop
@@ -68,9 +80,12 @@ products-spec =
     loop-holds
     mul-multiply
     shared-slice-read-multiply
+    cast-multiply
     mul-multiply-2
     shared-slice-read-multiply-2
+    cast-multiply-2
     multiply-requires
+    narrowed-requires
     mul-items
     array-write-items
     add-i

@@ -1,6 +1,7 @@
 -- A coefficient, or zero past the end.
 use mathlib.Core.Path.{sym}
 use Prim.Native.Nat.{_-_}
+use native.Mathlib.Omega.{arith}
 use lib.ListN.{List·getD-eq-default}
 use borrow.Author.Needs.{needs}
 use Rattle.polynomial.proofs.coefficient_at.Statement.{statement}
@@ -12,6 +13,9 @@ mul-result c = search needs
 shared-slice-read-result : tie.Need-shared-slice-read-result
 shared-slice-read-result c = search needs
 
+cast-result : tie.Need-cast-result
+cast-result c = omega (arith, c .shared-slice-known .given (c .before .before .args .k))
+
 returns : tie.Need-returns
 returns c = search needs
 
@@ -19,4 +23,4 @@ returns-2 : tie.Need-returns-2
 returns-2 c = sym (List·getD-eq-default (c .before .args .s .now) 0 (c .if1 .left))
 
 pub coefficient-at-spec : {M : Type 1} → statement M
-coefficient-at-spec = tie.close (tie.spec mul-result shared-slice-read-result returns returns-2)
+coefficient-at-spec = tie.close (tie.spec mul-result shared-slice-read-result cast-result returns returns-2)

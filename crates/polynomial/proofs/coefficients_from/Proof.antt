@@ -4,9 +4,10 @@ use Prim.Native.Nat.{_-_, _≤_}
 use native.Mathlib.Omega.{arith}
 use Rattle.laws.proofs.Front.{front}
 use Rattle.fieldvec.proofs.Build.{zeros, fill-more}
+use Rattle.fieldvec.proofs.Stored.{narrowed-whole}
 use Rattle.polynomial.specs.Products.{coefficientsFrom}
 use borrow.Author.Needs.{needs}
-use Rattle.polynomial.proofs.Coefficients.{from-length, from-at, from-filled}
+use Rattle.polynomial.proofs.Coefficients.{coefficient-lt, from-length, from-at, from-filled}
 use Rattle.polynomial.proofs.coefficients_from.Statement.{statement}
 use Rattle.polynomial.proofs.coefficients_from.Tie as tie
 
@@ -25,6 +26,9 @@ add-coefficient-of c = search needs
 coefficient-of-requires : tie.Need-coefficient-of-requires Inv-loop μ-loop
 coefficient-of-requires c κs = search needs
 
+narrowed-requires : tie.Need-narrowed-requires Inv-loop μ-loop
+narrowed-requires c κs = search needs
+
 mul-items : tie.Need-mul-items Inv-loop μ-loop
 mul-items c = search needs
 
@@ -39,10 +43,11 @@ loop-less c = search needs
 
 loop-again : tie.Need-loop-again Inv-loop μ-loop
 loop-again c =
-    let known = from-length (c .before .before .before .before .before .args .a .now) (c .before .before .before .before .before .args .b .now) (c .before .before .before .before .before .args .d) (c .before .before .before .before .before .args .n) in (
+    let known = from-length (c .before .before .before .before .before .before .args .a .now) (c .before .before .before .before .before .before .args .b .now) (c .before .before .before .before .before .before .args .d) (c .before .before .before .before .before .before .args .n) in (
       search needs,
-      fill-more (coefficientsFrom (c .before .before .before .before .before .args .a .now) (c .before .before .before .before .before .args .b .now) (c .before .before .before .before .before .args .d) (c .before .before .before .before .before .args .n)) (omega arith) (c .before .before .loop .j) (c .before .before .loop .inv .1) (omega arith)
-          (c .coefficient-of .ensures ∙ sym (from-at (c .before .before .before .before .before .args .a .now) (c .before .before .before .before .before .args .b .now) (c .before .before .before .before .before .args .d) (c .before .before .before .before .before .args .n) (c .before .before .loop .j) (search needs))),
+      fill-more (coefficientsFrom (c .before .before .before .before .before .before .args .a .now) (c .before .before .before .before .before .before .args .b .now) (c .before .before .before .before .before .before .args .d) (c .before .before .before .before .before .before .args .n)) (omega arith) (c .before .before .before .loop .j) (c .before .before .before .loop .inv .1) (omega arith)
+          (narrowed-whole (c .before .coefficient-of .ensures) (coefficient-lt _ _ _) (c .narrowed .ensures)
+          ∙ sym (from-at (c .before .before .before .before .before .before .args .a .now) (c .before .before .before .before .before .before .args .b .now) (c .before .before .before .before .before .before .args .d) (c .before .before .before .before .before .before .args .n) (c .before .before .before .loop .j) (search needs))),
     )
 
 returns : tie.Need-returns Inv-loop μ-loop
@@ -57,6 +62,7 @@ coefficients-from-spec =
     loop-holds
     add-coefficient-of
     coefficient-of-requires
+    narrowed-requires
     mul-items
     array-write-items
     add-j

@@ -31,6 +31,9 @@ mul-if1 c = search needs
 shared-slice-read-if1 : tie.Need-shared-slice-read-if1 Inv-loop μ-loop
 shared-slice-read-if1 c = search needs
 
+cast-if1 : tie.Need-cast-if1 Inv-loop μ-loop
+cast-if1 c = omega (arith, c .shared-slice-known .given (c .before .before .loop .n - 1))
+
 sub-result : tie.Need-sub-result Inv-loop μ-loop
 sub-result c = search needs
 
@@ -61,6 +64,7 @@ degree-of-spec =
     sub-if1
     mul-if1
     shared-slice-read-if1
+    cast-if1
     sub-result
     returns
     sub-n

@@ -1,15 +1,16 @@
 -- The derivative's coefficients, made from zeros, and then without the zeros at the end. The invariant: as many as were passed stand in
 -- their places.
 use mathlib.Core.Path.{_≡_, refl, sym, ap, _∙_}
-use Prim.Native.Nat.{_-_, _≤_}
+use Prim.Native.Nat.{_+_, _-_, _≤_}
 use native.Mathlib.Omega.{arith}
 use lib.ListN.{length, drop}
 use Rattle.laws.proofs.Front.{front}
 use Rattle.fieldvec.specs.Lists.{listed}
 use Rattle.fieldvec.proofs.Build.{zeros, fill-more}
+use Rattle.fieldvec.proofs.Stored.{narrowed-whole}
 use Rattle.polynomial.specs.Polynomials.{multiples, derivative}
 use borrow.Author.Needs.{needs}
-use Rattle.polynomial.proofs.Values.{derived-length, derived-at}
+use Rattle.polynomial.proofs.Values.{multiple-lt, derived-length, derived-at}
 use Rattle.polynomial.proofs.Trim.{trimmed-filled}
 use Rattle.polynomial.proofs.derived.Statement.{statement}
 use Rattle.polynomial.proofs.derived.Tie as tie
@@ -38,8 +39,14 @@ mul-multiple-of c = search needs
 shared-slice-read-multiple-of : tie.Need-shared-slice-read-multiple-of Inv-loop μ-loop
 shared-slice-read-multiple-of c = search needs
 
+cast-multiple-of : tie.Need-cast-multiple-of Inv-loop μ-loop
+cast-multiple-of c = omega (arith, c .shared-slice-known2 .given (c .before .before .loop .i + 1))
+
 multiple-of-requires : tie.Need-multiple-of-requires Inv-loop μ-loop
 multiple-of-requires c κs = search needs
+
+narrowed-requires : tie.Need-narrowed-requires Inv-loop μ-loop
+narrowed-requires c κs = search needs
 
 mul-items : tie.Need-mul-items Inv-loop μ-loop
 mul-items c = search needs
@@ -55,10 +62,11 @@ loop-less c = search needs
 
 loop-again : tie.Need-loop-again Inv-loop μ-loop
 loop-again c =
-    let known = derived-length (c .before .before .before .before .before .args .s .now) in (
+    let known = derived-length (c .before .before .before .before .before .before .args .s .now) in (
       search needs,
-      fill-more (multiples 1 (drop 1 (c .before .before .before .before .before .args .s .now))) (omega arith) (c .before .before .before .loop .i) (c .before .before .before .loop .inv .1) (omega arith)
-          (c .multiple-of .ensures ∙ sym (derived-at (c .before .before .before .before .before .args .s .now) (c .before .before .before .loop .i) (omega arith))),
+      fill-more (multiples 1 (drop 1 (c .before .before .before .before .before .before .args .s .now))) (omega arith) (c .before .before .before .before .loop .i) (c .before .before .before .before .loop .inv .1) (omega arith)
+          (narrowed-whole (c .before .multiple-of .ensures) (multiple-lt _ _) (c .narrowed .ensures)
+          ∙ sym (derived-at (c .before .before .before .before .before .before .args .s .now) (c .before .before .before .before .loop .i) (omega arith))),
     )
 
 trimmed-list-requires : tie.Need-trimmed-list-requires Inv-loop μ-loop
@@ -83,7 +91,9 @@ derived-spec =
     add-multiple-of-2
     mul-multiple-of
     shared-slice-read-multiple-of
+    cast-multiple-of
     multiple-of-requires
+    narrowed-requires
     mul-items
     array-write-items
     add-i

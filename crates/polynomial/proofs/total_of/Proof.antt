@@ -29,6 +29,9 @@ mul-add c = search needs
 shared-slice-read-add : tie.Need-shared-slice-read-add Inv-loop μ-loop
 shared-slice-read-add c = search needs
 
+cast-add : tie.Need-cast-add Inv-loop μ-loop
+cast-add c = omega (arith, c .shared-slice-known2 .given (c .before .before .loop .n - 1))
+
 add-requires : tie.Need-add-requires Inv-loop μ-loop
 add-requires c κs = search needs
 
@@ -59,6 +62,7 @@ total-of-spec =
     sub-add
     mul-add
     shared-slice-read-add
+    cast-add
     add-requires
     sub-n
     loop-less

@@ -19,9 +19,12 @@ mul-t6 c = search needs
 element-copy-out-t9 : tie.Need-element-copy-out-t9
 element-copy-out-t9 c = search needs
 
+cast-t10 : tie.Need-cast-t10
+cast-t10 c = search needs
+
 returns-3 : tie.Need-returns-3
 unfolding got
 returns-3 c = rw (le-ltb _ _ (c .before .before .if1 .left), lt-leb _ _ (c .before .if2 .left))
 
 pub get-spec : {M : Type 1} → statement M
-get-spec = tie.close (tie.spec returns returns-2 mul-t6 element-copy-out-t9 returns-3)
+get-spec = tie.close (tie.spec returns returns-2 mul-t6 element-copy-out-t9 cast-t10 returns-3)

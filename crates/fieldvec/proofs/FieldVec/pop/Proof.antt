@@ -34,6 +34,9 @@ mul-t c = search needs
 element-write-t : tie.Need-element-write-t
 element-write-t c = search needs
 
+cast-t17 : tie.Need-cast-t17
+cast-t17 c = search needs
+
 returns-3 : tie.Need-returns-3
 unfolding poppedBack
 returns-3 c = rw (ne-eqb _ _ (c .before .before .if1 .left), le-ltb _ _ (c .before .if2 .left))
@@ -51,4 +54,5 @@ pop-spec =
     element-copy-out-v
     mul-t
     element-write-t
+    cast-t17
     returns-3)

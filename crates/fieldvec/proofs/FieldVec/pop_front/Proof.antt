@@ -44,6 +44,9 @@ copied-requires c κs = search needs
 array-read-t13 : tie.Need-array-read-t13
 array-read-t13 c = search needs
 
+cast-t14 : tie.Need-cast-t14
+cast-t14 c = search needs
+
 returns-3 : tie.Need-returns-3
 unfolding poppedFront
 returns-3 c =
@@ -64,4 +67,5 @@ pop-front-spec =
     part-copied-end
     copied-requires
     array-read-t13
+    cast-t14
     returns-3)

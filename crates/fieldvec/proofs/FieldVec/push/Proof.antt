@@ -9,14 +9,8 @@ returns : tie.Need-returns
 unfolding pushed
 returns c = rw (le-leb _ _ (c .if1 .taken))
 
-cast-t : tie.Need-cast-t
-cast-t c = search needs
-
-rem-t : tie.Need-rem-t
-rem-t c = search needs
-
-cast-t-2 : tie.Need-cast-t-2
-cast-t-2 c = search needs
+narrowed-requires : tie.Need-narrowed-requires
+narrowed-requires c κs = search needs
 
 mul-t : tie.Need-mul-t
 mul-t c = search needs
@@ -29,7 +23,7 @@ add-t c = search needs
 
 returns-2 : tie.Need-returns-2
 unfolding pushed
-returns-2 c = rw (lt-leb _ _ (c .if1 .left))
+returns-2 c = rw (lt-leb _ _ (c .before .if1 .left), c .narrowed .ensures)
 
 pub push-spec : {M : Type 1} → statement M
-push-spec = tie.close (tie.spec returns cast-t rem-t cast-t-2 mul-t element-write-t add-t returns-2)
+push-spec = tie.close (tie.spec returns narrowed-requires mul-t element-write-t add-t returns-2)
