@@ -1,5 +1,5 @@
 -- The locator on concrete strings: BIP-173's shortest valid string with one symbol changed; a residue whose three values have one ratio, but no
--- symbol explains it; and wrong answers that the promise rules out.
+-- symbol explains it; one of which two values alone are those of a change; and wrong answers that the promise rules out.
 use mathlib.Core.Path.{_≡_, refl, sym, _∙_}
 use Prim.Native.Nat.{ℕ, _<_}
 use native.Mathlib.Omega.{arith}
@@ -18,7 +18,7 @@ use Rattle.answers.proofs.Computing.{computing}
 use Rattle.checksum.specs.declared.Checksum.the-variants.{Bech32}
 use Rattle.correction.specs.Promises.{WasLocated}
 use Rattle.correction.proofs.Verdicts.{place-missing}
-use Rattle.correction.proofs.OneChange.{small-change}
+use Rattle.correction.proofs.OneChange.{small-change, one-ratio as third-fits}
 
 -- the last symbol, and the fourth from the end
 pub last-changed : locateVerdict bech32 (bytes "a12uel5q") ≡ located.At 0
@@ -62,6 +62,30 @@ not-in-the-field =
     seen ∙ place-missing 1 190243612
     (λ p h x. let small : 988 < 32 =
     small-change 190243612 1 (sym (values .0)) (sym (values .1)) (sym (values .2)) p x (sym one-ratio) 988 (sym no-symbol) in omega arith)
+
+-- ---- two values as after a change of the last symbol by 1, and a third that is not: 1, 1 and 2
+
+seen-too : locateVerdict bech32 (bytes "a16tj9ex") ≡ placeVerdict 1 561375672
+unfolding computing locateVerdict
+seen-too = refl
+
+two-alike : (value 24 (561375672 ⊕ 1) ≡ 1) × (value 25 (561375672 ⊕ 1) ≡ 1) × (value 26 (561375672 ⊕ 1) ≡ 2)
+unfolding value valueOf turn times columns _⊕_
+two-alike = (refl, refl, refl)
+
+ratio-of-two : (quotient 1 1 ≡ Value 1) × (product 1 1 ≡ 1)
+unfolding quotient inverse sum product sum32 product32 products timesA _⊕_
+ratio-of-two = (refl, refl)
+
+pub not-explained : locateVerdict bech32 (bytes "a16tj9ex") ≡ located.Refused 21
+not-explained =
+    seen-too ∙ place-missing 1 561375672
+    (λ p h x. let wrong : _≡_ {A = ℕ} 1 2 =
+    sym (ratio-of-two .1) ∙ third-fits 561375672 1 (sym (two-alike .0)) (sym (two-alike .1)) (sym (two-alike .2)) p x (sym (ratio-of-two .0)) in omega arith)
+
+-- a locator that looks at two values alone
+pub not-by-two-values : WasLocated Bech32 (bytes "a16tj9ex") (located.At 0) → ⊥
+not-by-two-values p = let wrong : _≡_ {A = ℕ} 0 1 = cc (p, not-explained) in omega arith
 
 -- no answer is right for two places, so no constant one is
 pub not-constant : (r : Located) → WasLocated Bech32 (bytes "a12uel5q") r → WasLocated Bech32 (bytes "a12uql5l") r → ⊥
