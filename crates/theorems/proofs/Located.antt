@@ -1,4 +1,4 @@
--- The locator: which place it names exactly, that there is at most one, and that after one change it is the changed place.
+-- The locator: which place it names exactly, that there is at most one, and that after one change it is the changed place, cases unmixed.
 use mathlib.Core.Path.{_≡_, refl, sym, ap, ap₂, _∙_}
 use mathlib.Core.Logic.{_≢_, inl, inr, _↔_}
 use mathlib.Core.Bool.{Bool, true, false}
@@ -17,7 +17,7 @@ use Rattle.paper.specs.Charset.{isSymbol, symbol, lower}
 use Rattle.paper.specs.Checksum.{polymod, expand, residue}
 use Rattle.paper.proofs.Symbols.{symbols-of}
 use Rattle.paper.proofs.Polymod.{polymod-append}
-use Rattle.answers.specs.Reading.{dataPart, prefixPart, readVerdict}
+use Rattle.answers.specs.Reading.{dataPart, prefixPart, mixedCase, readVerdict}
 use Rattle.answers.specs.Locator.{explains, placeVerdict, afterReading, locateVerdict}
 use Rattle.answers.specs.declared.Reading.{Reading}
 use Rattle.answers.specs.declared.Reading.the-variants as reading
@@ -147,14 +147,15 @@ module _ {p : ℕ} {s t : List ℕ} (c : ChangedAt p s t) where
   changed =
       record {
         prefix = c .prefix;
+        copied = c .prefix;
         part = c .part;
         other = set (c .part) (c .index) (c .character);
         before = c .before;
         after = c .after;
+        same-prefix = refl;
         symbols = c .symbols;
         still-symbols = all-set isSymbol (c .part) (c .index) (c .character) (c .symbols) (c .still-symbol);
         one-length = sym (length-set (c .part) (c .index) (c .character));
-        one-case = c .one-case;
         some = rw (map-set symbol (c .part) (c .index) (c .character)) (differs (dist (map symbol (c .part)) others) refl);
         few = rw (map-set symbol (c .part) (c .index) (c .character))
             (let one : dist (map symbol (c .part)) (set (map symbol (c .part)) (c .index) (symbol (c .character))) ≤ 1 =
@@ -181,12 +182,11 @@ module _ {p : ℕ} {s t : List ℕ} (c : ChangedAt p s t) where
       (explains-change (polymod 1 (expand (map lower (c .prefix)))) (map symbol (c .part)) (c .index) (symbol (c .character))
       (symbols-of (c .part) (c .symbols)) inside symbol-below other-symbol))
 
-  -- After one change of an accepted string the locator names the changed place.
-  pub locates-the-change : (constant m n : ℕ) → readVerdict constant s ≡ reading.Accepted m n → locateVerdict constant t ≡ located.At p
+  -- After one change of an accepted string the locator names the changed place; where the change mixed the cases it says 2, as reading does.
+  pub locates-the-change : (constant m n : ℕ) → readVerdict constant s ≡ reading.Accepted m n
+      → locateVerdict constant t ≡ pick (mixedCase t) (located.Refused 2) (located.At p)
   unfolding locateVerdict
-  locates-the-change constant m n e =
-      rw (three-changes-refused constant s t m n e changed)
-      (place-found constant (residue (prefixPart t) (map symbol (dataPart t))) p low (explained constant came))
+  locates-the-change constant m n e = rw (three-changes-refused constant s t m n e changed) (by-case (mixedCase t))
     where
       came : residue (prefixPart s) (map symbol (dataPart s)) ≡ constant
       came = residue-right constant s m n e
@@ -198,7 +198,14 @@ module _ {p : ℕ} {s t : List ℕ} (c : ChangedAt p s t) where
           let place : p ≡ length (c .part) - suc (c .index) = c .place in
           omega (arith, length-append (c .prefix) (49 ∷ c .part))
 
+      by-case : (mixed : Bool)
+          → afterReading (reading.Refused (pick mixed 2 9)) (placeVerdict constant (residue (prefixPart t) (map symbol (dataPart t))))
+          ≡ pick mixed (located.Refused 2) (located.At p)
+      by-case true = refl
+      by-case false = place-found constant (residue (prefixPart t) (map symbol (dataPart t))) p low (explained constant came)
+
   -- So does correction::locate.
-  pub locate-names-the-change : (checksum : Checksum) (m n : ℕ) (r : Reading) (r′ : Located) → WasRead checksum s r → r ≡ reading.Accepted m n → WasLocated checksum t r′ → r′ ≡ located.At p
+  pub locate-names-the-change : (checksum : Checksum) (m n : ℕ) (r : Reading) (r′ : Located) → WasRead checksum s r → r ≡ reading.Accepted m n → WasLocated checksum t r′
+      → r′ ≡ pick (mixedCase t) (located.Refused 2) (located.At p)
   locate-names-the-change checksum m n r r′ kept accepted kept′ =
       kept′ ∙ locates-the-change (constantFor checksum) m n (sym kept ∙ accepted)

@@ -29,14 +29,15 @@ unfolding computing dist
 four-changed =
     record {
       prefix = bytes "a";
+      copied = bytes "a";
       part = bytes "qqqqqqqqqqqqqqqqqqqqqqqqqqqqqqqqqqqqqqqqqqqqqqqqqqqqqqqqqqqqqqqqqqqqqqqqqqqqqqqqqqqq95rf02";
       other = bytes "8qqqqqqqqqzqqqqqqqqqqqqqqqqqqqqqqqqqqqqqqqqqqqqqqqqqqqqqqqqqqqqqqqqqqqqqqqqyqqqqqqqq95rf0t";
       before = refl;
       after = refl;
+      same-prefix = refl;
       symbols = refl;
       still-symbols = refl;
       one-length = refl;
-      one-case = refl;
       some = lit≤ tt;
       few = lit≤ tt;
     }

@@ -1,5 +1,5 @@
--- A changed string is read in the same parts, and every rule but the checksum's says of it what it said of the string.
-use mathlib.Core.Path.{_≡_, refl, sym, ap, _∙_}
+-- A changed string is read in the same parts, case aside, and every rule but those of case and checksum says of it what it said of the string.
+use mathlib.Core.Path.{_≡_, refl, sym, ap, ap₂, _∙_}
 use mathlib.Core.Bool.{true, false}
 use mathlib.Core.List.{List, _∷_, _++_, map}
 use Prim.Native.Nat.{ℕ, suc, _+_, _≤_}
@@ -10,15 +10,16 @@ use borrow.Author.Tests.{eqb-true, not-false, ne-eqb}
 use Rattle.laws.specs.Lists.{any, all}
 use Rattle.laws.proofs.Bools.{both-ways}
 use Rattle.laws.proofs.Lists.{all-every, none-any}
-use Rattle.paper.specs.Charset.{isSeparator, isSymbol, symbol, lower, charset}
+use Rattle.paper.specs.Charset.{isSeparator, isSymbol, isPrintable, symbol, lower, charset}
 use Rattle.paper.specs.Checksum.{polymod, expand, residue}
 use Rattle.paper.proofs.Symbols.{symbols-of}
 use Rattle.answers.specs.Order.{NoneApplies}
-use Rattle.answers.specs.Reading.{dataPart, prefixPart, characterOutside, separatorMissing, prefixEmpty, prefixLong, prefixByteOutside, longerThan, dataShort, checksumWrong, stringRules}
+use Rattle.answers.specs.Reading.{dataPart, prefixPart, characterOutside, mixedCase, separatorMissing, prefixEmpty, prefixLong, prefixByteOutside, longerThan, dataShort, checksumWrong, stringRules}
 use Rattle.answers.proofs.Split.{separator-seen, dataPart-of, prefixPart-of}
 use Rattle.detection.specs.Patterns.{dist, Near, Clean}
 use Rattle.detection.proofs.Detection.{detects-after}
 use Rattle.detection.proofs.Distance.{dist-self}
+use Rattle.hrp.proofs.Case.{folded-printable}
 use Rattle.theorems.specs.Changes.{Changed}
 
 -- the separator is no symbol
@@ -38,35 +39,52 @@ module _ {w : ℕ} {s t : List ℕ} (c : Changed w s t) where
   part-before = ap dataPart (c .before) ∙ dataPart-of (c .prefix) (c .part) (no-separator (c .part) (c .symbols))
 
   pub part-after : dataPart t ≡ c .other
-  part-after = ap dataPart (c .after) ∙ dataPart-of (c .prefix) (c .other) (no-separator (c .other) (c .still-symbols))
+  part-after = ap dataPart (c .after) ∙ dataPart-of (c .copied) (c .other) (no-separator (c .other) (c .still-symbols))
 
   pub prefix-before : prefixPart s ≡ c .prefix
   prefix-before = ap prefixPart (c .before) ∙ prefixPart-of (c .prefix) (c .part) (no-separator (c .part) (c .symbols))
 
-  pub prefix-after : prefixPart t ≡ c .prefix
-  prefix-after = ap prefixPart (c .after) ∙ prefixPart-of (c .prefix) (c .other) (no-separator (c .other) (c .still-symbols))
+  pub prefix-after : prefixPart t ≡ c .copied
+  prefix-after = ap prefixPart (c .after) ∙ prefixPart-of (c .copied) (c .other) (no-separator (c .other) (c .still-symbols))
 
-  same-prefix : prefixPart t ≡ prefixPart s
-  same-prefix = prefix-after ∙ sym prefix-before
+  folded-prefix : map lower (prefixPart t) ≡ map lower (prefixPart s)
+  folded-prefix = ap (map lower) prefix-after ∙ c .same-prefix ∙ ap (map lower) (sym prefix-before)
+
+  same-prefix-length : length (prefixPart t) ≡ length (prefixPart s)
+  same-prefix-length = sym (length-map (prefixPart t) lower) ∙ ap length folded-prefix ∙ length-map (prefixPart s) lower
+
+  same-printable : all isPrintable (prefixPart t) ≡ all isPrintable (prefixPart s)
+  same-printable = sym (folded-printable (prefixPart t)) ∙ ap (all isPrintable) folded-prefix ∙ folded-printable (prefixPart s)
 
   pub same-part-length : length (dataPart t) ≡ length (dataPart s)
   same-part-length = ap length part-after ∙ sym (c .one-length) ∙ ap length (sym part-before)
 
+  copied-length : length (c .copied) ≡ length (c .prefix)
+  copied-length = ap length (sym prefix-after) ∙ same-prefix-length ∙ ap length prefix-before
+
   pub same-length : length t ≡ length s
   same-length =
-      ap length (c .after) ∙ length-append (c .prefix) (49 ∷ c .other) ∙ ap (λ (n : ℕ). length (c .prefix) + suc n) (sym (c .one-length))
+      ap length (c .after) ∙ length-append (c .copied) (49 ∷ c .other)
+      ∙ ap₂ (λ (k n : ℕ). k + suc n) copied-length (sym (c .one-length))
       ∙ sym (length-append (c .prefix) (49 ∷ c .part)) ∙ sym (ap length (c .before))
 
+  pub characters-after : characterOutside t ≡ false
+  unfolding characterOutside
+  characters-after = rw (part-after, c .still-symbols) refl
+
   -- the rules that both orders ask first
-  pub string-rules-after : NoneApplies (stringRules s) → NoneApplies (stringRules t)
-  unfolding characterOutside separatorMissing prefixEmpty prefixLong prefixByteOutside
-  string-rules-after none = (
-    rw (part-after, c .still-symbols) refl,
+  pub string-rules-after : NoneApplies (stringRules s) → mixedCase t ≡ false → NoneApplies (stringRules t)
+  unfolding separatorMissing prefixEmpty prefixLong prefixByteOutside
+  string-rules-after none one-case = (
+    characters-after,
     (
-      c .one-case,
+      one-case,
       (
-        rw (c .after, separator-seen (c .prefix) (c .other)) refl,
-        (rw same-prefix (none .1 .1 .1 .0), (rw same-prefix (none .1 .1 .1 .1 .0), (rw same-prefix (none .1 .1 .1 .1 .1 .0), tt))),
+        rw (c .after, separator-seen (c .copied) (c .other)) refl,
+        (
+          rw same-prefix-length (none .1 .1 .1 .0),
+          (rw same-prefix-length (none .1 .1 .1 .1 .0), (rw same-printable (none .1 .1 .1 .1 .1 .0), tt)),
+        ),
       ),
     ),
   )
@@ -100,11 +118,14 @@ module _ {w : ℕ} {s t : List ℕ} (c : Changed w s t) where
           rw (← prefix-before, ← part-before)
           (eqb-true (residue (prefixPart s) (map symbol (dataPart s))) constant (not-false (eqb (residue (prefixPart s) (map symbol (dataPart s))) constant) right))
 
+      folded-comes : residue (prefixPart t) (map symbol (dataPart t)) ≡ constant → polymod 1 (expand (map lower (c .prefix)) ++ map symbol (c .other)) ≡ constant
+      folded-comes comes =
+          ap (λ (p : List ℕ). polymod 1 (expand p ++ map symbol (c .other))) (sym (c .same-prefix)) ∙ (rw (prefix-after, part-after) at comes)
+
       other-residue : residue (prefixPart t) (map symbol (dataPart t)) ≡ constant → ⊥
       other-residue comes =
           let same : map symbol (c .part) ≡ map symbol (c .other) =
-          detects-after 1 (expand (map lower (c .prefix))) (map symbol (c .part)) (map symbol (c .other)) (near n within) clean
-          (came ∙ sym (rw (prefix-after, part-after) at comes)) in
+          detects-after 1 (expand (map lower (c .prefix))) (map symbol (c .part)) (map symbol (c .other)) (near n within) clean (came ∙ sym (folded-comes comes)) in
           let none : dist (map symbol (c .part)) (map symbol (c .other)) ≡ 0 =
           ap (dist (map symbol (c .part))) (sym same) ∙ dist-self (map symbol (c .part)) in
           let some : 1 ≤ dist (map symbol (c .part)) (map symbol (c .other)) = c .some in
