@@ -1,5 +1,6 @@
 pub mod Strings
 pub mod Detection
+pub mod Contents
 pub mod Sharp
 pub mod Located
 pub mod Reading

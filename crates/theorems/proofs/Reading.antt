@@ -2,16 +2,20 @@
 -- any length.
 use mathlib.Core.Path.{_≡_, sym, ap, _∙_}
 use mathlib.Core.Logic.{_↔_}
-use mathlib.Core.List.{List, _++_}
+use mathlib.Core.List.{List, [], _++_, map}
 use Prim.Native.Nat.{ℕ, _≤_}
 use native.Mathlib.Omega.{arith}
-use lib.ListN.{length, drop}
+use lib.ListN.{length, drop, length-map}
 use Rattle.laws.specs.Text.{bytes}
+use Rattle.paper.specs.Charset.{symbol}
+use Rattle.paper.specs.Bits.{toBytes}
 use Rattle.paper.specs.Valid.{ValidAddress}
 use Rattle.answers.specs.Accepted.{ReadAs, AddressAs}
-use Rattle.answers.specs.Reading.{programOf, addressVerdict, programAfter}
+use Rattle.answers.specs.Reading.{prefixPart, payload, payloadSymbols, programOf, readVerdict, readBytesVerdict, bufferAfter, partOf, addressVerdict, programAfter}
 use Rattle.answers.specs.declared.Reading.{Reading}
 use Rattle.answers.specs.declared.Reading.the-variants as reading
+use Rattle.answers.specs.declared.Written.{Written}
+use Rattle.answers.specs.declared.Written.the-variants as written
 use Rattle.answers.specs.declared.Address.{Address}
 use Rattle.answers.specs.declared.Address.the-variants as address
 use Rattle.answers.proofs.Exact.{reads-exactly, address-exactly, valid-program}
@@ -19,7 +23,10 @@ use Rattle.answers.proofs.Rooms.{address-with-room}
 use Rattle.answers.proofs.Cases.{taproot, valid-1}
 use Rattle.checksum.specs.Parameters.{constantFor}
 use Rattle.checksum.specs.declared.Checksum.{Checksum}
-use Rattle.decode.specs.Promises.{WasRead, AddressChecked, AddressRead}
+use Rattle.decode.specs.Symbols.{readSymbolsVerdict}
+use Rattle.decode.specs.Promises.{WasRead, DataPartGiven, PrefixPartGiven, SymbolsRead, BytesRead, AddressChecked, AddressRead}
+use Rattle.theorems.specs.Holds.{Holds, HoldsSymbols, HoldsBytes}
+use Rattle.theorems.proofs.Contents.{held-prefix, held-payload, held-part, no-part, held-into, into-exactly}
 
 -- decode::check_address accepts exactly the papers' addresses, with their version and the length of their program
 pub checks-exactly : (s : List ℕ) (r : Address) → AddressChecked s r → (v n : ℕ) → (r ≡ address.Accepted v n) ↔ AddressAs s v n
@@ -52,6 +59,78 @@ pub writes-the-program : (s before : List ℕ) (r : Address) (after : List ℕ) 
 writes-the-program s before r after kept v p valid e =
     kept .buffer ∙ ap (λ (x : Address). programAfter x (programOf s) before) (sym (kept .answer) ∙ e)
     ∙ ap (λ (l : List ℕ). l ++ drop (length p) before) (valid-program s v p valid)
+
+-- ---- the parts that are handed back
+
+-- what decode::data_part and decode::prefix_part are defined to give: of a valid string the part that it holds, of any other nothing
+pub payload-held : {constant : ℕ} {s prefix part : List ℕ} → Holds constant s prefix part → partOf (readVerdict constant s) (payload s) ≡ part
+payload-held {s = s} h = held-part h (payload s) ∙ held-payload h
+
+pub prefix-held : {constant : ℕ} {s prefix part : List ℕ} → Holds constant s prefix part → partOf (readVerdict constant s) (prefixPart s) ≡ prefix
+prefix-held {s = s} h = held-part h (prefixPart s) ∙ held-prefix h
+
+module _ (checksum : Checksum) (s r : List ℕ) where
+  -- so decode::data_part gives the data part of a valid string, the checksum taken off, and of any other string nothing
+  pub gives-the-data : DataPartGiven checksum s r → (prefix part : List ℕ) → Holds (constantFor checksum) s prefix part → r ≡ part
+  gives-the-data kept prefix part h = kept ∙ payload-held h
+
+  pub gives-no-data : DataPartGiven checksum s r → ((prefix part : List ℕ) → Holds (constantFor checksum) s prefix part → ⊥) → r ≡ []
+  gives-no-data kept none = kept ∙ no-part (constantFor checksum) s none (payload s)
+
+  -- and decode::prefix_part the prefix, as it stands in the string
+  pub gives-the-prefix : PrefixPartGiven checksum s r → (prefix part : List ℕ) → Holds (constantFor checksum) s prefix part → r ≡ prefix
+  gives-the-prefix kept prefix part h = kept ∙ prefix-held h
+
+  pub gives-no-prefix : PrefixPartGiven checksum s r → ((prefix part : List ℕ) → Holds (constantFor checksum) s prefix part → ⊥) → r ≡ []
+  gives-no-prefix kept none = kept ∙ no-part (constantFor checksum) s none (prefixPart s)
+
+-- ---- symbols and bytes
+
+module _ (checksum : Checksum) (s before : List ℕ) (r : Written) (after : List ℕ) where
+  -- decode::read_symbols accepts exactly the papers' strings whose symbols fit the room
+  pub reads-symbols-exactly : SymbolsRead checksum s before r after → (n : ℕ)
+      → (r ≡ written.Accepted n) ↔ (HoldsSymbols (constantFor checksum) s n × (n ≤ length before))
+  unfolding readSymbolsVerdict payloadSymbols
+  reads-symbols-exactly kept n =
+      let exactly = into-exactly (constantFor checksum) s (map symbol) (length before) n in (
+        (λ e.
+            let x = exactly .0 (sym (kept .answer) ∙ e) in
+            ((x .0 .0, x .0 .1, x .0 .2, sym (length-map (x .0 .1) symbol) ∙ x .0 .3), x .1)),
+        (λ x. kept .answer ∙ exactly .1 ((x .0 .0, x .0 .1, x .0 .2, length-map (x .0 .1) symbol ∙ x .0 .3), x .1)),
+      )
+
+  -- and then the buffer holds the symbols of the data part, with what lay past them; on a refusal it holds what it held
+  pub writes-the-symbols : SymbolsRead checksum s before r after → (prefix part : List ℕ) → Holds (constantFor checksum) s prefix part
+      → length part ≤ length before → (r ≡ written.Accepted (length part)) × (after ≡ map symbol part ++ drop (length part) before)
+  unfolding readSymbolsVerdict payloadSymbols
+  writes-the-symbols kept prefix part h fits =
+      let verdict : readSymbolsVerdict (constantFor checksum) s (length before) ≡ written.Accepted (length part) =
+      held-into (constantFor checksum) s (map symbol) (length before) h (rw (length-map part symbol) fits) ∙ ap written.Accepted (length-map part symbol) in (
+        kept .answer ∙ verdict,
+        kept .buffer ∙ ap (λ (v : Written). bufferAfter v (map symbol (payload s)) before) verdict
+            ∙ ap (λ (l : List ℕ). map symbol l ++ drop (length part) before) (held-payload h),
+      )
+
+  -- decode::read_bytes accepts exactly the papers' strings whose bytes fit the room
+  pub reads-bytes-exactly : BytesRead checksum s before r after → (n : ℕ)
+      → (r ≡ written.Accepted n) ↔ (HoldsBytes (constantFor checksum) s n × (n ≤ length before))
+  unfolding readBytesVerdict payloadSymbols
+  reads-bytes-exactly kept n =
+      let exactly = into-exactly (constantFor checksum) s (λ l. toBytes (map symbol l)) (length before) n in
+      (λ e. exactly .0 (sym (kept .answer) ∙ e), λ x. kept .answer ∙ exactly .1 x)
+
+  -- and then the buffer holds the bytes of the data part, leftover bits dropped, with what lay past them; on a refusal it holds what it held
+  pub writes-the-bytes : BytesRead checksum s before r after → (prefix part : List ℕ) → Holds (constantFor checksum) s prefix part
+      → length (toBytes (map symbol part)) ≤ length before
+      → (r ≡ written.Accepted (length (toBytes (map symbol part)))) × (after ≡ toBytes (map symbol part) ++ drop (length (toBytes (map symbol part))) before)
+  unfolding readBytesVerdict payloadSymbols
+  writes-the-bytes kept prefix part h fits =
+      let verdict : readBytesVerdict (constantFor checksum) s (length before) ≡ written.Accepted (length (toBytes (map symbol part))) =
+      held-into (constantFor checksum) s (λ l. toBytes (map symbol l)) (length before) h fits in (
+        kept .answer ∙ verdict,
+        kept .buffer ∙ ap (λ (v : Written). bufferAfter v (toBytes (map symbol (payload s))) before) verdict
+            ∙ ap (λ (l : List ℕ). toBytes (map symbol l) ++ drop (length (toBytes (map symbol part))) before) (held-payload h),
+      )
 
 -- ---- a reader that refuses a valid address keeps no promise: document 01's first case, and BIP-350's valid addresses
 

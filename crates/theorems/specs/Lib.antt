@@ -1,3 +1,4 @@
 pub mod Changes
+pub mod Holds
 pub mod Named
 pub mod ReadBack
