@@ -4,5 +4,6 @@ pub mod Contents
 pub mod Sharp
 pub mod Located
 pub mod Reading
+pub mod ReadSymbols
 pub mod RoundTrips
 pub mod Searched

@@ -53,12 +53,16 @@ reads-addresses-exactly s before r after kept v n = (
   (λ a. kept .answer ∙ address-with-room s (length before) v n .1 (address-exactly s v n .1 (a .0), a .1)),
 )
 
--- and then the buffer holds the program of the valid address, with what lay past it; on a refusal it holds what it held
+-- and then the buffer holds the program of the valid address, with what lay past it
 pub writes-the-program : (s before : List ℕ) (r : Address) (after : List ℕ) → AddressRead s before r after
     → (v : ℕ) (p : List ℕ) → ValidAddress s v p → r ≡ address.Accepted v (length p) → after ≡ p ++ drop (length p) before
 writes-the-program s before r after kept v p valid e =
     kept .buffer ∙ ap (λ (x : Address). programAfter x (programOf s) before) (sym (kept .answer) ∙ e)
     ∙ ap (λ (l : List ℕ). l ++ drop (length p) before) (valid-program s v p valid)
+
+-- on a refusal it holds what it held
+pub program-refused : (s before : List ℕ) (r : Address) (after : List ℕ) → AddressRead s before r after → (k : ℕ) → r ≡ address.Refused k → after ≡ before
+program-refused s before r after kept k e = kept .buffer ∙ ap (λ (x : Address). programAfter x (programOf s) before) (sym (kept .answer) ∙ e)
 
 -- ---- the parts that are handed back
 
@@ -99,7 +103,7 @@ module _ (checksum : Checksum) (s before : List ℕ) (r : Written) (after : List
         (λ x. kept .answer ∙ exactly .1 ((x .0 .0, x .0 .1, x .0 .2, length-map (x .0 .1) symbol ∙ x .0 .3), x .1)),
       )
 
-  -- and then the buffer holds the symbols of the data part, with what lay past them; on a refusal it holds what it held
+  -- and then the buffer holds the symbols of the data part, with what lay past them
   pub writes-the-symbols : SymbolsRead checksum s before r after → (prefix part : List ℕ) → Holds (constantFor checksum) s prefix part
       → length part ≤ length before → (r ≡ written.Accepted (length part)) × (after ≡ map symbol part ++ drop (length part) before)
   unfolding readSymbolsVerdict payloadSymbols
@@ -111,6 +115,9 @@ module _ (checksum : Checksum) (s before : List ℕ) (r : Written) (after : List
             ∙ ap (λ (l : List ℕ). map symbol l ++ drop (length part) before) (held-payload h),
       )
 
+  pub symbols-refused : SymbolsRead checksum s before r after → (k : ℕ) → r ≡ written.Refused k → after ≡ before
+  symbols-refused kept k e = kept .buffer ∙ ap (λ (v : Written). bufferAfter v (payloadSymbols s) before) (sym (kept .answer) ∙ e)
+
   -- decode::read_bytes accepts exactly the papers' strings whose bytes fit the room
   pub reads-bytes-exactly : BytesRead checksum s before r after → (n : ℕ)
       → (r ≡ written.Accepted n) ↔ (HoldsBytes (constantFor checksum) s n × (n ≤ length before))
@@ -119,7 +126,7 @@ module _ (checksum : Checksum) (s before : List ℕ) (r : Written) (after : List
       let exactly = into-exactly (constantFor checksum) s (λ l. toBytes (map symbol l)) (length before) n in
       (λ e. exactly .0 (sym (kept .answer) ∙ e), λ x. kept .answer ∙ exactly .1 x)
 
-  -- and then the buffer holds the bytes of the data part, leftover bits dropped, with what lay past them; on a refusal it holds what it held
+  -- and then the buffer holds the bytes of the data part, leftover bits dropped, with what lay past them
   pub writes-the-bytes : BytesRead checksum s before r after → (prefix part : List ℕ) → Holds (constantFor checksum) s prefix part
       → length (toBytes (map symbol part)) ≤ length before
       → (r ≡ written.Accepted (length (toBytes (map symbol part)))) × (after ≡ toBytes (map symbol part) ++ drop (length (toBytes (map symbol part))) before)
@@ -131,6 +138,9 @@ module _ (checksum : Checksum) (s before : List ℕ) (r : Written) (after : List
         kept .buffer ∙ ap (λ (v : Written). bufferAfter v (toBytes (map symbol (payload s))) before) verdict
             ∙ ap (λ (l : List ℕ). toBytes (map symbol l) ++ drop (length (toBytes (map symbol part))) before) (held-payload h),
       )
+
+  pub bytes-refused : BytesRead checksum s before r after → (k : ℕ) → r ≡ written.Refused k → after ≡ before
+  bytes-refused kept k e = kept .buffer ∙ ap (λ (v : Written). bufferAfter v (toBytes (payloadSymbols s)) before) (sym (kept .answer) ∙ e)
 
 -- ---- a reader that refuses a valid address keeps no promise: document 01's first case, and BIP-350's valid addresses
 

@@ -4,8 +4,9 @@ use mathlib.Core.Path.{_≡_, sym, ap, _∙_}
 use mathlib.Core.Logic.{_↔_}
 use mathlib.Core.Bool.{false}
 use mathlib.Core.List.{List, _∷_, _++_, map}
-use Prim.Native.Nat.{ℕ, _<_}
+use Prim.Native.Nat.{ℕ, _≤_, _<_}
 use native.Mathlib.Nat.{le-refl}
+use native.Mathlib.Omega.{arith}
 use lib.ListN.{length, take, drop, replicate}
 use lib.Seq.{take-at}
 use Rattle.laws.specs.Xor.{_⊕_}
@@ -29,17 +30,22 @@ use Rattle.iter.proofs.Lengths.{symbols-below}
 use Rattle.encode.specs.Promises.{Wrote, SymbolsWritten, BytesWritten, AddressWritten}
 use Rattle.encode.proofs.Accepted.{SymbolsFit, symbols-accepted, address-accepted}
 use Rattle.encode.proofs.Lengths.{written-length, address-length}
-use Rattle.encode.proofs.ReadBack.{written-prefix, written-symbols, accepted-is-read, accepted-address-is-read}
-use Rattle.encode.proofs.Rewritten.{rewritten-is-lower, readdressed-is-lower, reread-is-written}
+use Rattle.encode.proofs.ReadBack.{version-constant-lt, written-prefix, written-symbols, accepted-is-read, accepted-address-is-read}
+use Rattle.encode.proofs.Rewritten.{rewritten-is-lower, readdressed-is-lower, reread-is-written, readdressed-is-written}
 use Rattle.theorems.specs.ReadBack.{ReadBack}
 
 -- ---- 1. what we write we read back
 
--- the part of the buffer that was written holds the string
+-- the buffer holds the string, with what lay past it
+written-buffer : (verdict : Written) (content before : List ℕ) (r : Written) (after : List ℕ) (n : ℕ) → Wrote verdict content before r after
+    → r ≡ written.Accepted n → after ≡ content ++ drop n before
+written-buffer verdict content before r after n kept e =
+    kept .buffer ∙ ap (λ (v : Written). bufferAfter v content before) (sym (kept .answer) ∙ e)
+
 written-part : (verdict : Written) (content before : List ℕ) (r : Written) (after : List ℕ) (n : ℕ) → Wrote verdict content before r after
     → r ≡ written.Accepted n → length content ≡ n → take n after ≡ content
 written-part verdict content before r after n kept e size =
-    ap (take n) (kept .buffer ∙ ap (λ (v : Written). bufferAfter v content before) (sym (kept .answer) ∙ e)) ∙ take-at content (drop n before) n size
+    ap (take n) (written-buffer verdict content before r after n kept e) ∙ take-at content (drop n before) n size
 
 module _ (kind : Checksum) (prefix symbols before : List ℕ) (r : Written) (after : List ℕ) (n : ℕ) where
   -- encode::write_symbols: what it wrote is read, under the same checksum, as what was written
@@ -66,10 +72,15 @@ bytes-read-back kind prefix bytes before r after n small kept e =
     let back = symbols-read-back kind prefix (toSymbols bytes) before r after n as-symbols e in
     (back, ap toBytes (back .same-symbols) ∙ bytes-round bytes small)
 
--- encode::write_address: the address is read as the same version and program
+known-symbol : (v : ℕ) → v ≤ 16 → v < 32
+known-symbol v h = omega arith
+
+-- encode::write_address: the address is read as the same version and program, with the same prefix in lower case
 pub address-read-back : (prefix : List ℕ) (version : ℕ) (program before : List ℕ) (r : Written) (after : List ℕ) (n : ℕ) → Every (λ v. v < 256) program
     → AddressWritten prefix version program before r after → r ≡ written.Accepted n
     → (addressVerdict (take n after) ≡ address.Accepted version (length program)) × (programOf (take n after) ≡ program)
+    × (prefixPart (take n after) ≡ map lower prefix)
+unfolding writtenAddress
 address-read-back prefix version program before r after n small kept e =
     let accepted : writeAddressVerdict prefix version program (length before) ≡ written.Accepted n = sym (kept .answer) ∙ e in
     let fit = address-accepted prefix version program (length before) n .0 accepted in
@@ -77,7 +88,11 @@ address-read-back prefix version program before r after n small kept e =
     written-part (writeAddressVerdict prefix version program (length before)) (writtenAddress prefix version program) before r after n kept e
     (address-length prefix version program ∙ fit .count) in
     let back = accepted-address-is-read prefix version program (length before) n small accepted in
-    (rw string (back .0), rw string (back .1))
+    let symbols : Every (λ v. v < 32) (version ∷ toSymbols program) = (known-symbol version (fit .known), symbols-below program) in (
+      rw string (back .0),
+      rw string (back .1),
+      rw string (written-prefix (constantOf version) prefix (version ∷ toSymbols program) (fit .legal) symbols (version-constant-lt version)),
+    )
 
 -- ---- 2. rewriting what we read gives the same string in lower case
 
@@ -88,6 +103,30 @@ rewriting-a-string kind s m n e = rewritten-is-lower (constantFor kind) s m n (c
 pub rewriting-an-address : (s : List ℕ) (v n : ℕ) → addressVerdict s ≡ address.Accepted v n
     → writtenAddress (prefixPart s) (versionOf s) (programOf s) ≡ map lower s
 rewriting-an-address = readdressed-is-lower
+
+-- and the writers give it: encode::write_symbols and encode::write_address accept what was read wherever the room holds the string, and the buffer then
+-- holds it in lower case, with what lay past it
+pub rewrites-a-string : (kind : Checksum) (s : List ℕ) (m n : ℕ) → readVerdict (constantFor kind) s ≡ reading.Accepted m n
+    → (before : List ℕ) (r : Written) (after : List ℕ) → length s ≤ length before
+    → SymbolsWritten kind (prefixPart s) (payloadSymbols s) before r after
+    → (r ≡ written.Accepted (length s)) × (after ≡ map lower s ++ drop (length s) before)
+rewrites-a-string kind s m n e before r after room kept =
+    let answer : r ≡ written.Accepted (length s) = kept .answer ∙ reread-is-written (constantFor kind) s m n (length before) e room in (
+      answer,
+      written-buffer _ (writtenString (constantFor kind) (prefixPart s) (payloadSymbols s)) before r after (length s) kept answer
+          ∙ ap (λ (l : List ℕ). l ++ drop (length s) before) (rewriting-a-string kind s m n e),
+    )
+
+pub rewrites-an-address : (s : List ℕ) (v n : ℕ) → addressVerdict s ≡ address.Accepted v n
+    → (before : List ℕ) (r : Written) (after : List ℕ) → length s ≤ length before
+    → AddressWritten (prefixPart s) (versionOf s) (programOf s) before r after
+    → (r ≡ written.Accepted (length s)) × (after ≡ map lower s ++ drop (length s) before)
+rewrites-an-address s v n e before r after room kept =
+    let answer : r ≡ written.Accepted (length s) = kept .answer ∙ readdressed-is-written s v n (length before) e room in (
+      answer,
+      written-buffer _ (writtenAddress (prefixPart s) (versionOf s) (programOf s)) before r after (length s) kept answer
+          ∙ ap (λ (l : List ℕ). l ++ drop (length s) before) (rewriting-an-address s v n e),
+    )
 
 -- what the writer of symbols asks, of a string that was read
 read-fits : (kind : Checksum) (s : List ℕ) (m n : ℕ) → readVerdict (constantFor kind) s ≡ reading.Accepted m n
