@@ -5,5 +5,6 @@ pub mod Sharp
 pub mod Located
 pub mod Reading
 pub mod ReadSymbols
+pub mod Leftover
 pub mod RoundTrips
 pub mod Searched

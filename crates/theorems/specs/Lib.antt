@@ -1,4 +1,5 @@
 pub mod Changes
 pub mod Holds
+pub mod Leftover
 pub mod Named
 pub mod ReadBack
