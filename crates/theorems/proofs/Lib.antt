@@ -6,5 +6,6 @@ pub mod Located
 pub mod Reading
 pub mod ReadSymbols
 pub mod Leftover
+pub mod Examples
 pub mod RoundTrips
 pub mod Searched
