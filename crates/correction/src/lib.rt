@@ -3,11 +3,10 @@
 use answers::CHECKSUM_WRONG;
 use answers::Located;
 use answers::NO_SINGLE_PLACE;
-use answers::Verdict;
+use answers::Reading;
 use checksum::Checksum;
 use checksum::Engine;
 use decode::Parted;
-use decode::Parts;
 use fieldvec::CAPACITY;
 use fieldvec::Element;
 use fieldvec::FieldVec;
@@ -17,14 +16,14 @@ use gf32_ext::ROOT_GENERATOR;
 use polynomial::Root;
 ghost use mathlib.Core.Path.{_≡_};
 ghost use mathlib.Core.List.{[], _∷_, map};
-ghost use Prim.Native.Nat.{_^_, _≤_, _<_};
+ghost use Prim.Native.Nat.{_+_, _^_, _≤_, _<_};
+ghost use lib.ListN.{length, take, drop};
 ghost use Rattle.paper.specs.Charset.{symbol};
 ghost use Rattle.paper.specs.Checksum.{residue};
 ghost use Rattle.answers.specs.Locator.{placeVerdict};
 ghost use Rattle.gf32_ext.specs.Field.{fieldOrder, power};
 ghost use Rattle.fieldvec.specs.Lists.{capacity, elements, listed};
 ghost use Rattle.polynomial.specs.Polynomials.{valueAt};
-ghost use Rattle.decode.specs.Splitting.{prefixIn, dataIn};
 ghost use Rattle.correction.specs.Promises.{WasLocated};
 
 // The generator's three roots that follow one another: these powers of ROOT_GENERATOR.
@@ -43,21 +42,24 @@ pub fn locate(checksum: Checksum, s: &[u8]) -> Located
         Parted::Into(parts) => parts,
         Parted::Refused(number) => return Located::Refused(number),
     };
-    let Verdict::Refused(number) = decode::check(s, parts, checksum) else {
+    let Reading::Refused(number) = decode::read(checksum, s) else {
         return Located::Refused(NO_SINGLE_PLACE);
     };
     if number != CHECKSUM_WRONG {
         return Located::Refused(number);
     }
-    place_of(residue_of(s, parts), checksum::constant(checksum))
+    place_of(residue_of(s, parts.prefix), checksum::constant(checksum))
 }
 
-fn residue_of(s: &[u8], parts: Parts) -> u32
-    ensures { λ r. ⌜ r ≡ residue (prefixIn (now (s .entry)) parts) (map symbol (dataIn (now (s .entry)) parts)) ⌝ }
+// The residue of a prefix of this length and of what stands after the separator.
+fn residue_of(s: &[u8], prefix: usize) -> u32
+    requires { ⌜ prefix < length (now s) ⌝ }
+    ensures { λ r. ⌜ r ≡ residue (take prefix (now (s .entry))) (map symbol (drop (prefix + 1) (now (s .entry)))) ⌝ }
 {
+    let start = prefix + 1;
     let engine = Engine::new()
-        .input_prefix(decode::prefix_of(s, parts))
-        .input_characters(decode::data_of(s, parts));
+        .input_prefix(&s[..prefix])
+        .input_characters(&s[start..]);
     engine.residue()
 }
 

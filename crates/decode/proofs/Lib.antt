@@ -1,11 +1,11 @@
 pub mod Classes
 pub mod Scanning
 pub mod Splits
-pub mod Offsets
+pub mod Asked
+pub mod Told
 pub mod Stages
 pub mod Own
 pub mod Generic
 pub mod Segwit
 pub mod Rooms
-pub mod Program
 pub mod Excluded

@@ -1,32 +1,36 @@
--- Segwit reading in document 01's stages: 10; 1 to 6; 11 and 12; 8 and 9; 11 again; 13 and 14; 15 and 16. Where a stage begins, the verdict
--- is what the rules that are left say; each stage refuses with its number or hands on the rules after it.
-use mathlib.Core.Path.{_≡_, sym, ap, ap₂, _∙_}
+-- Segwit reading in document 01's stages: 10 and 1 to 6 of the string; then of its parts 11 and 12, 8 and 9, 11 again, 13 and 14, 15 and 16.
+-- Where a stage begins, the verdict is what the rules that are left say; each stage refuses with its number or hands on the rules after it.
+use mathlib.Core.Path.{_≡_, refl, sym, ap, ap₂, _∙_}
 use mathlib.Core.List.{List, [], _∷_, _++_, map}
-use Prim.Native.Nat.{ℕ, _≤_, _<_}
+use Prim.Native.Nat.{ℕ, _-_, _≤_, _<_}
 use native.Mathlib.Omega.{arith}
-use lib.ListN.{length}
-use borrow.Author.Tests.{lt-ltb, le-ltb, eq-eqb, ne-eqb}
+use lib.Dec.{eqb}
+use lib.ListN.{length, length-take}
+use borrow.Author.Tests.{lt-ltb, le-ltb, eq-eqb, ne-eqb, ltb-false, eqb-false}
+use Rattle.laws.proofs.Lists.{map-drop}
 use Rattle.paper.specs.Charset.{symbol}
 use Rattle.paper.specs.Checksum.{constantOf}
 use Rattle.paper.specs.Bits.{toBytes}
 use Rattle.answers.specs.Order.{Rule, _gives_, firstOf, NoneApplies}
-use Rattle.answers.specs.Rules.{versionUnknown, lengthWrong, lengthWrongFor0, paddingLong, paddingNotZero, paddingVerdict, lengthVerdict}
-use Rattle.answers.specs.Reading.{stringRules, versionOf, programSymbols, programOf, longerThan, dataMissing, dataShort, checksumWrong, payloadMissing, addressVerdict}
+use Rattle.answers.specs.Rules.{paddingVerdict, lengthVerdict}
+use Rattle.answers.specs.Reading.{stringRules, prefixPart, dataPart, payload, payloadSymbols, versionOf, programSymbols, programOf, longerThan, dataMissing, dataShort, checksumWrong, payloadMissing, addressVerdict}
 use Rattle.answers.specs.declared.Address.{Address}
 use Rattle.answers.specs.declared.Address.the-variants as address
 use Rattle.answers.specs.declared.Verdict.the-variants as verdict
 use Rattle.answers.proofs.Orders.{accepted-only}
+use Rattle.answers.proofs.Exact.{address-apart, address-injective}
 use Rattle.answers.proofs.Refusals.{verdict-apart, verdict-injective}
 use Rattle.checksum.specs.Parameters.{constantFor, checksumFor}
 use Rattle.checksum.specs.declared.Checksum.{Checksum}
 use Rattle.checksum.proofs.Constants.{constant-of-version}
 use Rattle.iter.proofs.Characters.{characters-length}
-use Rattle.decode.specs.Splitting.{partsOf, splitVerdict, payloadIn, programIn, versionIn, checkIn}
+use Rattle.decode.specs.Splitting.{partsOf, splitVerdict}
+use Rattle.decode.specs.Asked.{splitAddress, sumRules, sumVerdict, versionIn, versionRules, versionGiven, payloadIn, programIn, paddingRules, lengthRules, judgement}
 use Rattle.decode.specs.declared.Parts.{Parts}
 use Rattle.decode.specs.declared.Parted.the-variants as parted
 use Rattle.decode.specs.declared.Version.the-variants as version
 use Rattle.decode.proofs.Stages.{rest-decides, stage-refuses}
-use Rattle.decode.proofs.Own.{parted-apart, parted-injective, split-rules, split-payload, split-program, split-version, split-check}
+use Rattle.decode.proofs.Own.{parted-apart, parted-injective, OwnParts}
 
 version-apart : (v n : ℕ) → version.Refused n ≡ version.Known v → ⊥
 version-apart v n e = let z : _≡_ {A = ℕ} 0 1 = cc in omega arith
@@ -34,51 +38,86 @@ version-apart v n e = let z : _≡_ {A = ℕ} 0 1 = cc in omega arith
 version-injective : (m n : ℕ) → version.Refused m ≡ version.Refused n → m ≡ n
 version-injective m n e = cc
 
+-- ---- of the string: 10, and 1 to 6
+
 module _ (s : List ℕ) where
-  -- ---- the stages' rules
+  pub split-long : 90 < length s → parted.Refused 10 ≡ splitAddress s
+  unfolding splitAddress longerThan
+  split-long h = rw (lt-ltb 90 (length s) h)
 
-  abbrev pub lengthRules : List Rule
-  lengthRules = lengthWrong (length (programOf s)) gives 15 ∷ lengthWrongFor0 (versionOf s) (length (programOf s)) gives 16 ∷ []
+  pub split-short : length s ≤ 90 → splitVerdict s ≡ splitAddress s
+  unfolding splitAddress splitVerdict longerThan
+  split-short h = rw (le-ltb 90 (length s) h)
 
-  abbrev pub paddingRules : List Rule
-  paddingRules = paddingLong (programSymbols s) gives 13 ∷ paddingNotZero (programSymbols s) gives 14 ∷ []
+  abbrev before : List Rule
+  before = longerThan 90 s gives 10 ∷ stringRules s
 
-  abbrev pub payloadRules : List Rule
-  payloadRules = payloadMissing s gives 11 ∷ []
+  abbrev after : List Rule
+  after =
+      versionRules (dataPart s)
+      ++ sumRules (constantOf (versionOf s)) (prefixPart s) (dataPart s)
+      ++ payloadMissing s gives 11
+      ∷ paddingRules (programSymbols s)
+      ++ lengthRules (versionOf s) (programSymbols s)
 
-  abbrev pub sumRules : List Rule
-  sumRules = dataShort s gives 8 ∷ checksumWrong (constantOf (versionOf s)) s gives 9 ∷ []
+  in-two : firstOf address.Refused (before ++ after) (address.Accepted (versionOf s) (length (programOf s))) ≡ addressVerdict s
+  unfolding addressVerdict dataMissing versionOf dataShort checksumWrong programOf
+  in-two = refl
 
-  abbrev pub versionRules : List Rule
-  versionRules = dataMissing s gives 11 ∷ versionUnknown (versionOf s) gives 12 ∷ []
+  pub address-split-refused : (n : ℕ) → parted.Refused n ≡ splitAddress s → address.Refused n ≡ addressVerdict s
+  unfolding splitAddress
+  address-split-refused n e =
+      stage-refuses parted.Refused parted-injective (parted.Into (partsOf s)) (parted-apart (partsOf s)) address.Refused
+      (address.Accepted (versionOf s) (length (programOf s))) before after n e
+      ∙ in-two
 
-  -- ---- what is left after a stage
+  module _ (p : Parts) (given : parted.Into p ≡ splitAddress s) where
+    known : NoneApplies before × (parted.Into (partsOf s) ≡ parted.Into p)
+    unfolding splitAddress
+    known = accepted-only parted.Refused parted-injective (parted.Into (partsOf s)) (parted.Into p) (parted-apart p) before (sym given)
 
-  abbrev pub accepted : Address
-  accepted = address.Accepted (versionOf s) (length (programOf s))
+    pub address-own : OwnParts s p
+    address-own = let same : parted.Into (partsOf s) ≡ parted.Into p = known .1 in record { rules = known .0 .1; parts = cc }
 
-  abbrev pub left : List Rule → Address
-  left rules = firstOf address.Refused rules accepted
+    pub program-own : toBytes (map symbol (programIn (dataPart s))) ≡ programOf s
+    unfolding programIn payloadIn programOf programSymbols payloadSymbols payload
+    program-own = ap toBytes (map-drop symbol 1 (payload s))
 
-  abbrev pub afterPayload : List Rule
-  afterPayload = paddingRules ++ lengthRules
+    pub address-judged : judgement (prefixPart s) (dataPart s) ≡ addressVerdict s
+    unfolding judgement programIn payloadIn payload payloadSymbols programSymbols programOf versionOf payloadMissing
+    address-judged =
+        rw (map-drop symbol 1 (payload s))
+        (rest-decides address.Refused before after (address.Accepted (versionOf s) (length (programOf s))) (known .0) ∙ in-two)
 
-  abbrev pub afterSum : List Rule
-  afterSum = payloadRules ++ afterPayload
+-- ---- of a prefix and of the characters after the separator
 
-  abbrev pub afterVersion : List Rule
-  afterVersion = sumRules ++ afterSum
+module _ (prefix characters : List ℕ) where
+  abbrev symbols : List ℕ
+  symbols = map symbol (programIn characters)
 
-  abbrev pub afterSplit : List Rule
-  afterSplit = versionRules ++ afterVersion
+  abbrev accepted : Address
+  accepted = address.Accepted (versionIn characters) (length (toBytes symbols))
+
+  abbrev afterPayload : List Rule
+  afterPayload = paddingRules symbols ++ lengthRules (versionIn characters) symbols
+
+  abbrev afterSum : List Rule
+  afterSum = eqb (length (payloadIn characters)) 0 gives 11 ∷ afterPayload
+
+  abbrev afterVersion : List Rule
+  afterVersion = sumRules (constantOf (versionIn characters)) prefix characters ++ afterSum
 
   -- the rules that are left decide
   abbrev pub Here : List Rule → Type 0
-  Here rules = left rules ≡ addressVerdict s
+  Here rules = firstOf address.Refused rules accepted ≡ judgement prefix characters
+
+  start : Here (versionRules characters ++ afterVersion)
+  unfolding judgement
+  start = refl
 
   -- a stage that is a rule alone, with no value to give
   refuses : (rules more : List Rule) → Here (rules ++ more) → (n : ℕ) → verdict.Refused n ≡ firstOf verdict.Refused rules verdict.Accepted
-      → address.Refused n ≡ addressVerdict s
+      → address.Refused n ≡ judgement prefix characters
   refuses rules more here n e =
       stage-refuses verdict.Refused verdict-injective verdict.Accepted verdict-apart address.Refused accepted rules more n e ∙ here
 
@@ -88,105 +127,107 @@ module _ (s : List ℕ) where
       (accepted-only verdict.Refused verdict-injective verdict.Accepted verdict.Accepted verdict-apart rules (sym e) .0)
       ∙ here
 
-  -- ---- 10
+  -- ---- 11 and 12
 
-  pub address-long : 90 < length s → address.Refused 10 ≡ addressVerdict s
-  unfolding addressVerdict longerThan
-  address-long h = rw (lt-ltb 90 (length s) h)
+  pub version-refused : (n : ℕ) → version.Refused n ≡ versionGiven characters → address.Refused n ≡ judgement prefix characters
+  unfolding versionGiven
+  version-refused n e =
+      stage-refuses version.Refused version-injective (version.Known (versionIn characters)) (version-apart (versionIn characters)) address.Refused accepted
+      (versionRules characters) afterVersion n e
+      ∙ start
 
-  pub after-length : length s ≤ 90 → Here (stringRules s ++ afterSplit)
-  unfolding addressVerdict longerThan
-  after-length short = rw (le-ltb 90 (length s) short)
+  module _ (v : ℕ) (first : version.Known v ≡ versionGiven characters) where
+    passed : NoneApplies (versionRules characters) × (version.Known (versionIn characters) ≡ version.Known v)
+    unfolding versionGiven
+    passed =
+        accepted-only version.Refused version-injective (version.Known (versionIn characters)) (version.Known v) (version-apart v) (versionRules characters) (sym first)
 
-  -- ---- 1 to 6
+    version-is : v ≡ versionIn characters
+    version-is = let same : version.Known (versionIn characters) ≡ version.Known v = passed .1 in cc
 
-  module _ (here : Here (stringRules s ++ afterSplit)) where
-    pub split-refused : (n : ℕ) → parted.Refused n ≡ splitVerdict s → address.Refused n ≡ addressVerdict s
-    unfolding splitVerdict
-    split-refused n e =
-        stage-refuses parted.Refused parted-injective (parted.Into (partsOf s)) (parted-apart (partsOf s)) address.Refused accepted (stringRules s) afterSplit n e
-        ∙ here
+    after-version : Here afterVersion
+    after-version = rest-decides address.Refused (versionRules characters) afterVersion accepted (passed .0) ∙ start
 
-    pub after-split : (p : Parts) → parted.Into p ≡ splitVerdict s → Here afterSplit
-    after-split p split = rest-decides address.Refused (stringRules s) afterSplit accepted (split-rules s p split) ∙ here
+    -- ---- 8 and 9
 
-  module _ (p : Parts) (split : parted.Into p ≡ splitVerdict s) where
-    -- ---- 11 and 12
+    module _ (checksum : Checksum) (of-version : checksum ≡ checksumFor v) where
+      right-constant : constantFor checksum ≡ constantOf (versionIn characters)
+      right-constant = ap constantFor of-version ∙ constant-of-version v ∙ ap constantOf version-is
 
-    pub version-refused : Here afterSplit → (n : ℕ) → version.Refused n ≡ versionIn s p → address.Refused n ≡ addressVerdict s
-    version-refused here n e =
-        stage-refuses version.Refused version-injective (version.Known (versionOf s)) (version-apart (versionOf s)) address.Refused accepted versionRules afterVersion n
-        (e ∙ split-version s p split)
-        ∙ here
+      sum-stage : sumVerdict (constantFor checksum) prefix characters
+          ≡ firstOf verdict.Refused (sumRules (constantOf (versionIn characters)) prefix characters) verdict.Accepted
+      unfolding sumVerdict
+      sum-stage = rw right-constant
 
-    module _ (v : ℕ) (first : version.Known v ≡ versionIn s p) where
-      passed : NoneApplies versionRules × (version.Known (versionOf s) ≡ version.Known v)
-      passed =
-          accepted-only version.Refused version-injective (version.Known (versionOf s)) (version.Known v) (version-apart v) versionRules
-          (sym (first ∙ split-version s p split))
+      pub sum-refused : (n : ℕ) → verdict.Refused n ≡ sumVerdict (constantFor checksum) prefix characters → address.Refused n ≡ judgement prefix characters
+      sum-refused n e = refuses (sumRules (constantOf (versionIn characters)) prefix characters) afterSum after-version n (e ∙ sum-stage)
 
-      pub version-is : v ≡ versionOf s
-      version-is = let same : version.Known (versionOf s) ≡ version.Known v = passed .1 in cc
+      module _ (checked : verdict.Accepted ≡ sumVerdict (constantFor checksum) prefix characters) where
+        after-sum : Here afterSum
+        after-sum = passes (sumRules (constantOf (versionIn characters)) prefix characters) afterSum after-version (checked ∙ sum-stage)
 
-      pub after-version : Here afterSplit → Here afterVersion
-      after-version here = rest-decides address.Refused versionRules afterVersion accepted (passed .0) ∙ here
+        enough : 6 ≤ length characters
+        enough =
+            ltb-false (length characters) 6
+            (accepted-only verdict.Refused verdict-injective verdict.Accepted verdict.Accepted verdict-apart
+            (sumRules (constantOf (versionIn characters)) prefix characters) (sym (checked ∙ sum-stage)) .0 .0)
 
-    -- ---- 8 and 9; 7 cannot come
+        payload-length : length (payloadIn characters) ≡ length characters - 6
+        unfolding payloadIn
+        payload-length = let six : 6 ≤ length characters = enough in omega (arith, length-take (length characters - 6) characters)
 
-    module _ (short : length s ≤ 90) (v : ℕ) (is : v ≡ versionOf s) (checksum : Checksum) (of-version : checksum ≡ checksumFor v) where
-      right-constant : constantFor checksum ≡ constantOf (versionOf s)
-      right-constant = ap constantFor of-version ∙ constant-of-version v ∙ ap constantOf is
+        -- ---- 11 again
 
-      sum-stage : checkIn (constantFor checksum) s p ≡ firstOf verdict.Refused sumRules verdict.Accepted
-      unfolding longerThan
-      sum-stage = split-check s p split (constantFor checksum) ∙ rw (le-ltb 1023 (length s) (omega arith), right-constant)
+        pub payload-missing : length characters ≡ 6 → address.Refused 11 ≡ judgement prefix characters
+        payload-missing e = rw (eq-eqb (length (payloadIn characters)) 0 (omega (arith, payload-length))) at after-sum
 
-      pub sum-refused : Here afterVersion → (n : ℕ) → verdict.Refused n ≡ checkIn (constantFor checksum) s p → address.Refused n ≡ addressVerdict s
-      sum-refused here n e = refuses sumRules afterSum here n (e ∙ sum-stage)
+        module _ (some : length characters ≡ 6 → ⊥) where
+          pub program-enough : 7 ≤ length characters
+          program-enough = let six : 6 ≤ length characters = enough in omega (arith, some)
 
-      pub after-sum : Here afterVersion → verdict.Accepted ≡ checkIn (constantFor checksum) s p → Here afterSum
-      after-sum here e = passes sumRules afterSum here (e ∙ sum-stage)
+          after-payload : Here afterPayload
+          after-payload =
+              let seven : 7 ≤ length characters = program-enough in
+              rw (ne-eqb (length (payloadIn characters)) 0 (λ e. omega (arith, payload-length))) at after-sum
 
-    -- ---- 11 again
+          -- ---- 13 and 14
 
-    module _ (here : Here afterSum) (characters : List ℕ) (is : characters ≡ payloadIn s p) where
-      pub payload-missing : length characters ≡ 0 → address.Refused 11 ≡ addressVerdict s
-      unfolding payloadMissing
-      payload-missing e = rw (← split-payload s p split, ← is, eq-eqb (length characters) 0 e) at here
+          module _ (program : List ℕ) (is : program ≡ programIn characters) where
+            padding-stage : paddingVerdict (map symbol program) ≡ firstOf verdict.Refused (paddingRules symbols) verdict.Accepted
+            unfolding paddingVerdict
+            padding-stage = rw is
 
-      pub after-payload : (length characters ≡ 0 → ⊥) → Here afterPayload
-      unfolding payloadMissing
-      after-payload some = rw (← split-payload s p split, ← is, ne-eqb (length characters) 0 some) at here
+            pub padding-refused : (n : ℕ) → verdict.Refused n ≡ paddingVerdict (map symbol program) → address.Refused n ≡ judgement prefix characters
+            padding-refused n e = refuses (paddingRules symbols) (lengthRules (versionIn characters) symbols) after-payload n (e ∙ padding-stage)
 
-    module _ (program : List ℕ) (is : program ≡ programIn s p) where
-      symbols-are : map symbol program ≡ programSymbols s
-      symbols-are = ap (map symbol) is ∙ split-program s p split
+            module _ (padded : verdict.Accepted ≡ paddingVerdict (map symbol program)) (n : ℕ) (counted : n ≡ length (toBytes program)) where
+              after-padding : Here (lengthRules (versionIn characters) symbols)
+              after-padding = passes (paddingRules symbols) (lengthRules (versionIn characters) symbols) after-payload (padded ∙ padding-stage)
 
-      -- ---- 13 and 14
+              -- ---- 15 and 16
 
-      padding-stage : paddingVerdict (map symbol program) ≡ firstOf verdict.Refused paddingRules verdict.Accepted
-      unfolding paddingVerdict
-      padding-stage = rw symbols-are
+              length-is : n ≡ length (toBytes symbols)
+              length-is = counted ∙ sym (characters-length program) ∙ ap (λ (l : List ℕ). length (toBytes (map symbol l))) is
 
-      pub padding-refused : Here afterPayload → (n : ℕ) → verdict.Refused n ≡ paddingVerdict (map symbol program) → address.Refused n ≡ addressVerdict s
-      padding-refused here n e = refuses paddingRules lengthRules here n (e ∙ padding-stage)
+              length-stage : lengthVerdict v n ≡ firstOf verdict.Refused (lengthRules (versionIn characters) symbols) verdict.Accepted
+              unfolding lengthVerdict
+              length-stage = rw (length-is, version-is)
 
-      pub after-padding : Here afterPayload → verdict.Accepted ≡ paddingVerdict (map symbol program) → Here lengthRules
-      after-padding here e = passes paddingRules lengthRules here (e ∙ padding-stage)
+              pub length-refused : (m : ℕ) → verdict.Refused m ≡ lengthVerdict v n → address.Refused m ≡ judgement prefix characters
+              length-refused m e = refuses (lengthRules (versionIn characters) symbols) [] after-padding m (e ∙ length-stage)
 
-      -- ---- 15 and 16
+              pub address-accepted : verdict.Accepted ≡ lengthVerdict v n → address.Accepted v n ≡ judgement prefix characters
+              address-accepted e =
+                  ap₂ address.Accepted version-is length-is
+                  ∙ passes (lengthRules (versionIn characters) symbols) [] after-padding (e ∙ length-stage)
 
-      module _ (here : Here lengthRules) (v : ℕ) (version : v ≡ versionOf s) (n : ℕ) (counted : n ≡ length (toBytes program)) where
-        length-is : n ≡ length (programOf s)
-        unfolding programOf
-        length-is = counted ∙ sym (characters-length program) ∙ ap (λ (l : List ℕ). length (toBytes l)) symbols-are
-
-        length-stage : lengthVerdict v n ≡ firstOf verdict.Refused lengthRules verdict.Accepted
-        unfolding lengthVerdict
-        length-stage = rw (length-is, version)
-
-        pub length-refused : (m : ℕ) → verdict.Refused m ≡ lengthVerdict v n → address.Refused m ≡ addressVerdict s
-        length-refused m e = refuses lengthRules [] here m (e ∙ length-stage)
-
-        pub address-accepted : verdict.Accepted ≡ lengthVerdict v n → address.Accepted v n ≡ addressVerdict s
-        address-accepted e = ap₂ address.Accepted version length-is ∙ passes lengthRules [] here (e ∙ length-stage)
+-- what an accepted judgement says of the characters
+pub judged-enough : (prefix characters : List ℕ) (v n : ℕ) → address.Accepted v n ≡ judgement prefix characters → 7 ≤ length characters
+unfolding judgement payloadIn
+judged-enough prefix characters v n e =
+    let none : NoneApplies (versionRules characters ++ afterVersion prefix characters) =
+    accepted-only address.Refused address-injective (accepted prefix characters) (address.Accepted v n) (address-apart v n)
+    (versionRules characters ++ afterVersion prefix characters) (sym e) .0 in
+    let six : 6 ≤ length characters = ltb-false (length characters) 6 (none .1 .1 .0) in
+    let some : length (payloadIn characters) ≡ 0 → ⊥ = eqb-false (length (payloadIn characters)) 0 (none .1 .1 .1 .1 .0) in
+    omega (arith, some, length-take (length characters - 6) characters)

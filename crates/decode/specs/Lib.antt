@@ -1,5 +1,6 @@
 pub mod Scan
 pub mod Splitting
+pub mod Asked
 pub mod Symbols
 pub mod Numbers
 pub mod Promises

@@ -21,7 +21,3 @@ symbolsOfParted (parted.Refused k) = 0
 abbrev pub numberOfVersion : Version → ℕ
 numberOfVersion (version.Known v) = 0
 numberOfVersion (version.Refused k) = k
-
-abbrev pub versionOfVersion : Version → ℕ
-versionOfVersion (version.Known v) = v
-versionOfVersion (version.Refused k) = 0

@@ -8,15 +8,12 @@ use Rattle.paper.specs.Bits.{toBytes}
 use Rattle.answers.specs.Reading.{prefixPart, payload, payloadSymbols, programOf, readVerdict, partOf, readBytesVerdict, bufferAfter, addressVerdict, readAddressVerdict, programAfter}
 use Rattle.answers.specs.declared.Reading.{Reading}
 use Rattle.answers.specs.declared.Address.{Address}
-use Rattle.answers.specs.declared.Verdict.{Verdict}
 use Rattle.answers.specs.declared.Written.{Written}
 use Rattle.checksum.specs.Parameters.{constantFor}
 use Rattle.checksum.specs.declared.Checksum.{Checksum}
 use Rattle.decode.specs.Symbols.{readSymbolsVerdict}
-use Rattle.decode.specs.Splitting.{splitVerdict, prefixIn, dataIn, payloadIn, programIn, versionIn, checkIn}
-use Rattle.decode.specs.declared.Parts.{Parts}
+use Rattle.decode.specs.Splitting.{splitVerdict}
 use Rattle.decode.specs.declared.Parted.{Parted}
-use Rattle.decode.specs.declared.Version.{Version}
 
 -- decode::read
 abbrev pub WasRead : Checksum → List ℕ → Reading → Type 0
@@ -79,46 +76,3 @@ WasSplit s r = r ≡ splitVerdict s
 
 pub was-split-once : (s : List ℕ) (r r′ : Parted) → WasSplit s r → WasSplit s r′ → r ≡ r′
 was-split-once s r r′ p q = same p q
-
--- decode::check
-abbrev pub Checked : List ℕ → Parts → Checksum → Verdict → Type 0
-Checked s parts checksum r = r ≡ checkIn (constantFor checksum) s parts
-
-pub checked-once : (s : List ℕ) (parts : Parts) (checksum : Checksum) (r r′ : Verdict)
-    → Checked s parts checksum r → Checked s parts checksum r′ → r ≡ r′
-checked-once s parts checksum r r′ p q = same p q
-
--- decode::version_of
-abbrev pub VersionGiven : List ℕ → Parts → Version → Type 0
-VersionGiven s parts r = r ≡ versionIn s parts
-
-pub version-given-once : (s : List ℕ) (parts : Parts) (r r′ : Version) → VersionGiven s parts r → VersionGiven s parts r′ → r ≡ r′
-version-given-once s parts r r′ p q = same p q
-
--- decode::prefix_of
-abbrev pub PrefixGiven : List ℕ → Parts → List ℕ → Type 0
-PrefixGiven s parts r = r ≡ prefixIn s parts
-
-pub prefix-given-once : (s : List ℕ) (parts : Parts) (r r′ : List ℕ) → PrefixGiven s parts r → PrefixGiven s parts r′ → r ≡ r′
-prefix-given-once s parts r r′ p q = same p q
-
--- decode::data_of
-abbrev pub DataGiven : List ℕ → Parts → List ℕ → Type 0
-DataGiven s parts r = r ≡ dataIn s parts
-
-pub data-given-once : (s : List ℕ) (parts : Parts) (r r′ : List ℕ) → DataGiven s parts r → DataGiven s parts r′ → r ≡ r′
-data-given-once s parts r r′ p q = same p q
-
--- decode::payload_of
-abbrev pub PayloadGiven : List ℕ → Parts → List ℕ → Type 0
-PayloadGiven s parts r = r ≡ payloadIn s parts
-
-pub payload-given-once : (s : List ℕ) (parts : Parts) (r r′ : List ℕ) → PayloadGiven s parts r → PayloadGiven s parts r′ → r ≡ r′
-payload-given-once s parts r r′ p q = same p q
-
--- decode::program_of
-abbrev pub ProgramGiven : List ℕ → Parts → List ℕ → Type 0
-ProgramGiven s parts r = r ≡ programIn s parts
-
-pub program-given-once : (s : List ℕ) (parts : Parts) (r r′ : List ℕ) → ProgramGiven s parts r → ProgramGiven s parts r′ → r ≡ r′
-program-given-once s parts r r′ p q = same p q

@@ -32,13 +32,15 @@ use scan::scan_data;
 use scan::scan_prefix;
 use symbols::put_symbols;
 ghost use mathlib.Core.Path.{_≡_};
-ghost use Prim.Native.Nat.{_+_, _-_, _*_, _/_, _≤_};
+ghost use Prim.Native.Nat.{_+_, _-_, _≤_};
 ghost use lib.ListN.{length, take, drop};
-ghost use Rattle.decode.specs.Splitting.{belongs};
-ghost use Rattle.decode.specs.Promises.{WasRead, DataPartGiven, PrefixPartGiven, SymbolsRead, BytesRead, AddressChecked, AddressRead, WasSplit, Checked, VersionGiven, PrefixGiven, DataGiven, PayloadGiven, ProgramGiven};
+ghost use Rattle.answers.specs.Numbers.{numberOfVerdict};
+ghost use Rattle.checksum.specs.Parameters.{constantFor};
+ghost use Rattle.decode.specs.Asked.{splitAddress, versionGiven, sumVerdict, programIn, judgement};
+ghost use Rattle.decode.specs.Numbers.{numberOfParted, numberOfVersion};
+ghost use Rattle.decode.specs.Promises.{WasRead, DataPartGiven, PrefixPartGiven, SymbolsRead, BytesRead, AddressChecked, AddressRead, WasSplit};
 
-// A string taken apart at its last separator: how long the prefix is, and how many characters stand after the separator. Any record may be
-// asked of any string: one that does not belong to it has empty parts.
+// A string taken apart at its last separator: how long the prefix is, and how many characters stand after the separator.
 pub struct Parts {
     pub prefix: usize,
     pub symbols: usize,
@@ -51,7 +53,7 @@ pub enum Parted {
 }
 
 // The witness version of an address.
-pub enum Version {
+enum Version {
     Known(u8),
     Refused(u8),
 }
@@ -60,14 +62,19 @@ pub enum Version {
 pub fn read(checksum: Checksum, s: &[u8]) -> Reading
     ensures { λ r. ⌜ WasRead checksum (now (s .entry)) r ⌝ }
 {
-    let parts = match split(s) {
-        Parted::Into(parts) => parts,
-        Parted::Refused(number) => return Reading::Refused(number),
+    let parted = split(s);
+    let Parted::Into(parts) = parted else {
+        return Reading::Refused(number_of(parted));
     };
-    if let Verdict::Refused(number) = check(s, parts, checksum) {
-        return Reading::Refused(number);
+    if CODE_LENGTH < s.len() {
+        return Reading::Refused(STRING_LONG);
     }
-    Reading::Accepted(parts.prefix, parts.symbols - CHECKSUM_LENGTH)
+    let prefix = parts.prefix;
+    let verdict = check(&s[..prefix], part_after(s, prefix, parts.symbols), checksum);
+    let Verdict::Accepted = verdict else {
+        return Reading::Refused(number_of_verdict(verdict));
+    };
+    Reading::Accepted(prefix, parts.symbols - CHECKSUM_LENGTH)
 }
 
 // The data part with the checksum taken off, where it lies in the caller's slice; the empty part on a refusal.
@@ -114,56 +121,36 @@ pub fn read_bytes(checksum: Checksum, s: &[u8], out: &mut [u8]) -> Written
     }
 }
 
-// Segwit reading with no buffer to write to: document 01's order, in which 11 comes twice.
+// Segwit reading with no buffer to write to: document 01's order, 10 and 1 to 6 and then what is asked of the parts.
 pub fn check_address(s: &[u8]) -> Address
     ensures { λ r. ⌜ AddressChecked (now (s .entry)) r ⌝ }
 {
-    if segwit::MAX_STRING_LENGTH < s.len() {
-        return Address::Refused(ADDRESS_LONG);
-    }
-    // 1 to 6
-    let parts = match split(s) {
-        Parted::Into(parts) => parts,
-        Parted::Refused(number) => return Address::Refused(number),
+    let parted = split_address(s);
+    let Parted::Into(parts) = parted else {
+        return Address::Refused(number_of(parted));
     };
-    // 11 and 12
-    let version = match version_of(s, parts) {
-        Version::Known(version) => version,
-        Version::Refused(number) => return Address::Refused(number),
-    };
-    // 8 and 9
-    if let Verdict::Refused(number) = check(s, parts, checksum::for_version(version)) {
-        return Address::Refused(number);
-    }
-    // 11 again, now that the checksum is off
-    if payload_of(s, parts).len() == 0 {
-        return Address::Refused(NO_DATA);
-    }
-    let program = program_of(s, parts);
-    // 13 and 14
-    if let Verdict::Refused(number) = iter::padding_of_characters(program) {
-        return Address::Refused(number);
-    }
-    let length = iter::bytes_for_symbols(program);
-    // 15 and 16
-    if let Verdict::Refused(number) = segwit::check_program_length(version, length) {
-        return Address::Refused(number);
-    }
-    Address::Accepted(version, length)
+    let prefix = parts.prefix;
+    judge(&s[..prefix], part_after(s, prefix, parts.symbols))
 }
 
-// Segwit reading: the program goes into the lent buffer.
+// Segwit reading: the program, which starts after the version, goes into the lent buffer.
 pub fn read_address(s: &[u8], out: &mut [u8]) -> Address
     ensures { λ r. ⌜ AddressRead (now (s .entry)) (now (out .entry)) r (now (out .exit)) ⌝ }
 {
-    let address = check_address(s);
+    let parted = split_address(s);
+    let Parted::Into(parts) = parted else {
+        return Address::Refused(number_of(parted));
+    };
+    let prefix = parts.prefix;
+    let characters = part_after(s, prefix, parts.symbols);
+    let address = judge(&s[..prefix], characters);
     let Address::Accepted(version, length) = address else {
         return address;
     };
     if out.len() < length {
         return Address::Refused(ROOM_SMALL);
     }
-    iter::characters_to_bytes(program_part(s, length), out);
+    iter::characters_to_bytes(program_of(characters), out);
     Address::Accepted(version, length)
 }
 
@@ -199,32 +186,53 @@ pub fn split(s: &[u8]) -> Parted
     })
 }
 
-// Answers 7, 8 and 9: the length of the whole, and the checksum.
-pub fn check(s: &[u8], parts: Parts, checksum: Checksum) -> Verdict
-    ensures { λ r. ⌜ Checked (now (s .entry)) parts checksum r ⌝ }
+// Answer 10, and then 1 to 6.
+fn split_address(s: &[u8]) -> Parted
+    ensures { λ r. ⌜ r ≡ splitAddress (now (s .entry)) ⌝ }
 {
-    if CODE_LENGTH < s.len() {
-        return Verdict::Refused(STRING_LONG);
+    if segwit::MAX_STRING_LENGTH < s.len() {
+        return Parted::Refused(ADDRESS_LONG);
     }
-    let characters = data_of(s, parts);
-    if characters.len() < CHECKSUM_LENGTH {
-        return Verdict::Refused(DATA_SHORT);
+    split(s)
+}
+
+// What segwit reading asks of a prefix and of the characters after the separator, in document 01's order, in which 11 comes twice.
+fn judge(prefix: &[u8], characters: &[u8]) -> Address
+    ensures { λ r. ⌜ r ≡ judgement (now (prefix .entry)) (now (characters .entry)) ⌝ }
+{
+    // 11 and 12
+    let first = version_of(characters);
+    let Version::Known(version) = first else {
+        return Address::Refused(number_of_version(first));
+    };
+    // 8 and 9
+    let verdict = check(prefix, characters, checksum::for_version(version));
+    let Verdict::Accepted = verdict else {
+        return Address::Refused(number_of_verdict(verdict));
+    };
+    // 11 again, now that the checksum is off
+    if characters.len() == CHECKSUM_LENGTH {
+        return Address::Refused(NO_DATA);
     }
-    let prefix = prefix_of(s, parts);
-    let engine = Engine::new()
-        .input_prefix(prefix)
-        .input_characters(characters);
-    if engine.residue() != checksum::constant(checksum) {
-        return Verdict::Refused(CHECKSUM_WRONG);
-    }
-    Verdict::Accepted
+    let program = program_of(characters);
+    // 13 and 14
+    let padding = iter::padding_of_characters(program);
+    let Verdict::Accepted = padding else {
+        return Address::Refused(number_of_verdict(padding));
+    };
+    // 15 and 16
+    let length = iter::bytes_for_symbols(program);
+    let fit = segwit::check_program_length(version, length);
+    let Verdict::Accepted = fit else {
+        return Address::Refused(number_of_verdict(fit));
+    };
+    Address::Accepted(version, length)
 }
 
 // Answers 11 and 12: the first character after the separator.
-pub fn version_of(s: &[u8], parts: Parts) -> Version
-    ensures { λ r. ⌜ VersionGiven (now (s .entry)) parts r ⌝ }
+fn version_of(characters: &[u8]) -> Version
+    ensures { λ r. ⌜ r ≡ versionGiven (now (characters .entry)) ⌝ }
 {
-    let characters = data_of(s, parts);
     if characters.len() == 0 {
         return Version::Refused(NO_DATA);
     }
@@ -238,58 +246,29 @@ pub fn version_of(s: &[u8], parts: Parts) -> Version
     Version::Known(version)
 }
 
-// What stands before the separator.
-pub fn prefix_of(s: &[u8], parts: Parts) -> &[u8]
-    ensures { λ r. ⌜ PrefixGiven (now (s .entry)) parts (now r) ⌝ }
+// Answers 8 and 9: room for a checksum, and the checksum.
+fn check(prefix: &[u8], characters: &[u8], checksum: Checksum) -> Verdict
+    ensures { λ r. ⌜ r ≡ sumVerdict (constantFor checksum) (now (prefix .entry)) (now (characters .entry)) ⌝ }
 {
-    if !belongs(s, parts) {
-        return &s[..0];
-    }
-    let end = parts.prefix;
-    &s[..end]
-}
-
-// What stands after the separator.
-pub fn data_of(s: &[u8], parts: Parts) -> &[u8]
-    ensures { λ r. ⌜ DataGiven (now (s .entry)) parts (now r) ⌝ }
-{
-    if !belongs(s, parts) {
-        return &s[..0];
-    }
-    let start = parts.prefix + 1;
-    &s[start..]
-}
-
-// The same with the checksum taken off.
-pub fn payload_of(s: &[u8], parts: Parts) -> &[u8]
-    ensures { λ r. ⌜ PayloadGiven (now (s .entry)) parts (now r) ⌝ }
-{
-    let characters = data_of(s, parts);
     if characters.len() < CHECKSUM_LENGTH {
-        return &characters[..0];
+        return Verdict::Refused(DATA_SHORT);
     }
-    &characters[..characters.len() - CHECKSUM_LENGTH]
+    let engine = Engine::new()
+        .input_prefix(prefix)
+        .input_characters(characters);
+    if engine.residue() != checksum::constant(checksum) {
+        return Verdict::Refused(CHECKSUM_WRONG);
+    }
+    Verdict::Accepted
 }
 
-// The same with the version taken off too.
-pub fn program_of(s: &[u8], parts: Parts) -> &[u8]
-    ensures { λ r. ⌜ ProgramGiven (now (s .entry)) parts (now r) ⌝ }
+// Between the version and the checksum.
+fn program_of(characters: &[u8]) -> &[u8]
+    requires { ⌜ 7 ≤ length (now characters) ⌝ }
+    ensures { λ r. ⌜ now r ≡ programIn (now (characters .entry)) ⌝ }
 {
-    let payload = payload_of(s, parts);
-    if payload.len() == 0 {
-        return payload;
-    }
-    &payload[1..]
-}
-
-// Whether a prefix, a separator and the symbols are all of the string. Any record is asked, and no sum of its numbers is made.
-fn belongs(s: &[u8], parts: Parts) -> bool
-    ensures { λ r. ⌜ r ≡ belongs (now (s .entry)) parts ⌝ }
-{
-    if s.len() <= parts.prefix {
-        return false;
-    }
-    s.len() - parts.prefix - 1 == parts.symbols
+    let end = characters.len() - CHECKSUM_LENGTH;
+    &characters[1..end]
 }
 
 // So many characters after a prefix of this length and the separator.
@@ -301,12 +280,30 @@ fn part_after(s: &[u8], prefix: usize, symbols: usize) -> &[u8]
     &s[start..start + symbols]
 }
 
-// The characters of a program of so many bytes: the last before the checksum. Padding is under five bits, so the bytes tell their number.
-fn program_part(s: &[u8], bytes: usize) -> &[u8]
-    requires { ⌜ (bytes ≤ 40) × ((bytes * 8 + 4) / 5 + 6 ≤ length (now s)) ⌝ }
-    ensures { λ r. ⌜ now r ≡ take ((bytes * 8 + 4) / 5) (drop (length (now (s .entry)) - 6 - (bytes * 8 + 4) / 5) (now (s .entry))) ⌝ }
+// The number of a refusal, and 0 where there is none.
+fn number_of(parted: Parted) -> u8
+    ensures { λ r. ⌜ r ≡ numberOfParted parted ⌝ }
 {
-    let symbols = (bytes * 8 + 4) / 5;
-    let end = s.len() - CHECKSUM_LENGTH;
-    &s[end - symbols..end]
+    match parted {
+        Parted::Into(_) => 0,
+        Parted::Refused(number) => number,
+    }
+}
+
+fn number_of_version(version: Version) -> u8
+    ensures { λ r. ⌜ r ≡ numberOfVersion version ⌝ }
+{
+    match version {
+        Version::Known(_) => 0,
+        Version::Refused(number) => number,
+    }
+}
+
+fn number_of_verdict(verdict: Verdict) -> u8
+    ensures { λ r. ⌜ r ≡ numberOfVerdict verdict ⌝ }
+{
+    match verdict {
+        Verdict::Accepted => 0,
+        Verdict::Refused(number) => number,
+    }
 }

@@ -1,11 +1,11 @@
--- `locate` meets its promise: the refusals of both stages, and the place where the second says 9.
+-- `locate` meets its promise: what reading refuses is refused, and the place is looked for where it says 9.
 use mathlib.Core.Path.{sym, ap, _∙_}
 use Prim.Native.Nat.{ℕ}
 use Rattle.answers.specs.Locator.{placeVerdict}
 use Rattle.checksum.specs.Parameters.{constantFor}
-use Rattle.correction.proofs.Locating.{split-keeps, accepted-unplaced, check-keeps, residue-small, nine-placed}
-use borrow.Author.Needs.{needs}
 use Rattle.checksum.proofs.Constants.{constant-lt}
+use Rattle.correction.proofs.Locating.{split-keeps, accepted-unplaced, keeps, prefix-inside, residue-small, nine-placed}
+use borrow.Author.Needs.{needs}
 use Rattle.correction.proofs.locate.Statement.{statement}
 use Rattle.correction.proofs.locate.Tie as tie
 
@@ -21,8 +21,8 @@ enum-known-number c = search needs
 returns : tie.Need-returns
 returns c = split-keeps (constantFor (c .before .before .before .before .before .args .checksum)) (c .before .before .before .before .before .args .s .now) _ (sym (c .before .number .given .1) ∙ c .before .before .before .split .ensures)
 
-check-requires : tie.Need-check-requires
-check-requires c κs = search needs
+read-requires : tie.Need-read-requires
+read-requires c κs = search needs
 
 enum-known-number-2 : tie.Need-enum-known-number-2
 enum-known-number-2 c = search needs
@@ -31,13 +31,13 @@ enum-told : tie.Need-enum-told
 enum-told c = search needs
 
 returns-2 : tie.Need-returns-2
-returns-2 c = accepted-unplaced (constantFor (c .before .before .before .before .before .before .before .before .args .checksum)) (c .before .before .before .before .before .before .before .before .args .s .now) _ (sym (c .before .before .before .before .parts .given .1) ∙ c .before .before .before .before .before .before .split .ensures) (sym (c .enum-told .given .1) ∙ c .before .before .check .ensures)
+returns-2 c = accepted-unplaced (constantFor (c .before .before .before .before .before .before .before .before .args .checksum)) (c .before .before .before .before .before .before .before .before .args .s .now) _ _ (sym (c .enum-told .given .1) ∙ c .before .before .read .ensures)
 
 returns-3 : tie.Need-returns-3
-returns-3 c = check-keeps (constantFor (c .before .before .before .before .before .before .before .before .before .before .args .checksum)) (c .before .before .before .before .before .before .before .before .before .before .args .s .now) _ (sym (c .before .before .before .before .before .before .parts .given .1) ∙ c .before .before .before .before .before .before .before .before .split .ensures) _ (c .if1 .taken) (sym (c .before .before .number2 .given .1) ∙ c .before .before .before .before .check .ensures)
+returns-3 c = keeps (constantFor (c .before .before .before .before .before .before .before .before .before .before .args .checksum)) (c .before .before .before .before .before .before .before .before .before .before .args .s .now) _ (c .if1 .taken) (sym (c .before .before .number2 .given .1) ∙ c .before .before .before .before .read .ensures)
 
 residue-of-requires : tie.Need-residue-of-requires
-residue-of-requires c κs = search needs
+residue-of-requires c κs = prefix-inside (constantFor (c .before .before .before .before .before .before .before .before .before .before .args .checksum)) (c .before .before .before .before .before .before .before .before .before .before .args .s .now) _ (sym (c .before .before .before .before .before .before .parts .given .1) ∙ c .before .before .before .before .before .before .before .before .split .ensures)
 
 constant-requires : tie.Need-constant-requires
 constant-requires c κs = search needs
@@ -50,8 +50,9 @@ place-of-requires c κs = (
 
 returns-4 : tie.Need-returns-4
 returns-4 c =
-    c .place-of .ensures ∙ ap (λ (k : ℕ). placeVerdict k (c .before .before .residue-of .result)) (c .before .constant .ensures)
-    ∙ nine-placed (constantFor (c .before .before .before .before .before .before .before .before .before .before .before .before .before .args .checksum)) (c .before .before .before .before .before .before .before .before .before .before .before .before .before .args .s .now) _ (sym (c .before .before .before .before .before .before .before .before .before .parts .given .1) ∙ c .before .before .before .before .before .before .before .before .before .before .before .split .ensures) _ _ (c .before .before .before .if1 .left) (sym (c .before .before .before .before .before .number2 .given .1) ∙ c .before .before .before .before .before .before .before .check .ensures) (c .before .before .residue-of .ensures)
+    c .place-of .ensures
+    ∙ ap (λ (k : ℕ). placeVerdict k (c .before .before .residue-of .result)) (c .before .constant .ensures)
+    ∙ nine-placed (constantFor (c .before .before .before .before .before .before .before .before .before .before .before .before .before .args .checksum)) (c .before .before .before .before .before .before .before .before .before .before .before .before .before .args .s .now) _ (sym (c .before .before .before .before .before .before .before .before .before .parts .given .1) ∙ c .before .before .before .before .before .before .before .before .before .before .before .split .ensures) _ _ (c .before .before .before .if1 .left) (sym (c .before .before .before .before .before .number2 .given .1) ∙ c .before .before .before .before .before .before .before .read .ensures) (c .before .before .residue-of .ensures)
 
 pub locate-spec : {M : Type 1} → statement M
 locate-spec =
@@ -61,7 +62,7 @@ locate-spec =
     enum-known-parts
     enum-known-number
     returns
-    check-requires
+    read-requires
     enum-known-number-2
     enum-told
     returns-2

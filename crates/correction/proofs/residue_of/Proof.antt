@@ -1,26 +1,37 @@
 -- `residue_of`: the engine started, fed with the prefix and then with the characters.
-use mathlib.Core.Path.{sym, ap₂, _∙_}
+use mathlib.Core.Path.{sym, ap, _∙_}
 use mathlib.Core.List.{List, map}
-use Prim.Native.Nat.{ℕ}
+use Prim.Native.Nat.{ℕ, _+_, _-_}
+use lib.ListN.{length, take, drop}
+use lib.Seq.{length-take-le}
+use Rattle.laws.proofs.Parts.{rest}
 use Rattle.paper.specs.Charset.{symbol}
 use Rattle.paper.specs.Checksum.{residue}
-use Rattle.decode.proofs.Offsets.{engine-came}
-use Rattle.paper.proofs.Polymod.{residue-parts}
+use Rattle.decode.proofs.Asked.{engine-came}
 use borrow.Author.Needs.{needs}
 use Rattle.correction.proofs.residue_of.Statement.{statement}
 use Rattle.correction.proofs.residue_of.Tie as tie
 
+add-start : tie.Need-add-start
+add-start c = search needs
+
 new-requires : tie.Need-new-requires
 new-requires c κs = search needs
 
-prefix-of-requires : tie.Need-prefix-of-requires
-prefix-of-requires c κs = search needs
+slice-aggregate-input-prefix : tie.Need-slice-aggregate-input-prefix
+slice-aggregate-input-prefix c = sym (length-take-le _ _ (search needs))
 
 input-prefix-requires : tie.Need-input-prefix-requires
 input-prefix-requires c κs = search needs
 
-data-of-requires : tie.Need-data-of-requires
-data-of-requires c κs = search needs
+sub-input-characters : tie.Need-sub-input-characters
+sub-input-characters c = search needs
+
+part-input-characters-start : tie.Need-part-input-characters-start
+part-input-characters-start c = search needs
+
+part-input-characters-end : tie.Need-part-input-characters-end
+part-input-characters-end c = search needs
 
 input-characters-requires : tie.Need-input-characters-requires
 input-characters-requires c κs = search needs
@@ -30,20 +41,21 @@ residue-requires c κs = search needs
 
 returns : tie.Need-returns
 returns c =
-    engine-came (c .before .before .before .before .prefix-of .result .now) (c .before .before .data-of .result .now)
-    (c .before .before .before .before .before .new .ensures) (c .before .before .before .input-prefix .ensures)
-    (c .before .input-characters .ensures) (c .residue .ensures)
-    ∙ sym (residue-parts (c .before .before .before .before .prefix-of .result .now) (map symbol (c .before .before .data-of .result .now)))
-    ∙ ap₂ (λ (a b : List ℕ). residue a (map symbol b)) (c .before .before .before .before .prefix-of .ensures) (c .before .before .data-of .ensures)
+    engine-came (take (c .before .before .before .before .before .before .before .args .prefix) (c .before .before .before .before .before .before .before .args .s .now)) (take (length (c .before .before .before .before .before .before .before .args .s .now) - ((c .before .before .before .before .before .before .before .args .prefix) + 1)) (drop ((c .before .before .before .before .before .before .before .args .prefix) + 1) (c .before .before .before .before .before .before .before .args .s .now)))
+    (c .before .before .before .before .before .new .ensures) (c .before .before .before .input-prefix .ensures) (c .before .input-characters .ensures) (c .residue .ensures)
+    ∙ ap (λ (l : List ℕ). residue (take (c .before .before .before .before .before .before .before .args .prefix) (c .before .before .before .before .before .before .before .args .s .now)) (map symbol l)) (rest (c .before .before .before .before .before .before .before .args .s .now) ((c .before .before .before .before .before .before .before .args .prefix) + 1))
 
 pub residue-of-spec : {M : Type 1} → statement M
 residue-of-spec =
     tie.close
     (tie.spec
+    add-start
     new-requires
-    prefix-of-requires
+    slice-aggregate-input-prefix
     input-prefix-requires
-    data-of-requires
+    sub-input-characters
+    part-input-characters-start
+    part-input-characters-end
     input-characters-requires
     residue-requires
     returns)
