@@ -7,7 +7,7 @@ use borrow.Author.Tests.{eqb-false}
 use Rattle.laws.specs.Text.{bytes}
 use Rattle.paper.specs.Bits.{toBytes}
 use Rattle.answers.specs.Numbers.{numberOfReading, numberOfAddress}
-use Rattle.answers.specs.Reading.{dataPart, payload, payloadSymbols}
+use Rattle.answers.specs.Reading.{prefixPart, dataPart, payload, payloadSymbols}
 use Rattle.answers.specs.declared.Reading.{Reading}
 use Rattle.answers.specs.declared.Reading.the-variants as reading
 use Rattle.answers.specs.declared.Written.the-variants as written
@@ -21,6 +21,7 @@ use Rattle.checksum.specs.declared.Checksum.the-variants.{Bech32}
 use Rattle.decode.specs.Splitting.{partsOf, splitVerdict}
 use Rattle.decode.specs.Symbols.{readSymbolsVerdict}
 use Rattle.decode.specs.Numbers.{numberOfParted, prefixOfParted}
+use Rattle.decode.specs.Places.{Place}
 use Rattle.decode.specs.Promises.{WasRead, DataPartGiven, PrefixPartGiven, SymbolsRead, BytesRead, AddressChecked, AddressRead, WasSplit}
 use Rattle.decode.specs.declared.Parts.{Parts}
 use Rattle.decode.specs.declared.Parted.{Parted}
@@ -96,25 +97,44 @@ pub first-one-is-no-separator : WasSplit two-text (parted.Into (record { prefix 
 unfolding computing splitVerdict partsOf
 first-one-is-no-separator e = eqb-false 1 9 refl (ap prefixOfParted e)
 
--- ---- handing back nothing, or another part of the string
+-- ---- handing back nothing, another part of the string, or a part that lies elsewhere. The string lies 7 bytes into the block 3.
 
-pub data-part-not-always-empty : DataPartGiven Bech32 key-text [] → ⊥
+abbrev lent : Place
+lent = (3, 7)
+
+pub data-part-not-always-empty : (at : Place) → DataPartGiven Bech32 lent key-text at [] → ⊥
 unfolding computing
-data-part-not-always-empty e = eqb-false 0 33 refl (ap length e)
+data-part-not-always-empty at r = eqb-false 0 33 refl (ap length (r .content))
 
 -- the checksum left on
-pub data-part-not-with-checksum : DataPartGiven Bech32 key-text (dataPart key-text) → ⊥
+pub data-part-not-with-checksum : (at : Place) → DataPartGiven Bech32 lent key-text at (dataPart key-text) → ⊥
 unfolding computing
-data-part-not-with-checksum e = eqb-false 39 33 refl (ap length e)
+data-part-not-with-checksum at r = eqb-false 39 33 refl (ap length (r .content))
 
-pub prefix-part-not-always-empty : PrefixPartGiven Bech32 key-text [] → ⊥
+-- a copy in another block, and the right characters found one byte too early
+pub data-part-not-copied : (offset : ℕ) → DataPartGiven Bech32 lent key-text (4, offset) (payload key-text) → ⊥
+data-part-not-copied offset r = eqb-false 4 3 refl (ap (λ (p : Place). p .0) (r .place))
+
+pub data-part-not-from-separator : DataPartGiven Bech32 lent key-text (3, 9) (payload key-text) → ⊥
 unfolding computing
-prefix-part-not-always-empty e = eqb-false 0 2 refl (ap length e)
+data-part-not-from-separator r = eqb-false 9 10 refl (ap (λ (p : Place). p .1) (r .place))
+
+-- the empty part of a refused string at the string's end
+pub data-part-not-at-end : DataPartGiven Bech32 lent (bytes "az2uel5l") (3, 15) [] → ⊥
+unfolding computing
+data-part-not-at-end r = eqb-false 15 7 refl (ap (λ (p : Place). p .1) (r .place))
+
+pub prefix-part-not-always-empty : (at : Place) → PrefixPartGiven Bech32 lent key-text at [] → ⊥
+unfolding computing
+prefix-part-not-always-empty at r = eqb-false 0 2 refl (ap length (r .content))
 
 -- the separator with the prefix
-pub prefix-part-not-with-separator : PrefixPartGiven Bech32 key-text (take 3 key-text) → ⊥
+pub prefix-part-not-with-separator : (at : Place) → PrefixPartGiven Bech32 lent key-text at (take 3 key-text) → ⊥
 unfolding computing
-prefix-part-not-with-separator e = eqb-false 3 2 refl (ap length e)
+prefix-part-not-with-separator at r = eqb-false 3 2 refl (ap length (r .content))
+
+pub prefix-part-not-copied : (offset : ℕ) → PrefixPartGiven Bech32 lent key-text (4, offset) (prefixPart key-text) → ⊥
+prefix-part-not-copied offset r = eqb-false 4 3 refl (ap (λ (p : Place). p .0) (r .place))
 
 -- ---- accepting and leaving the buffer as it was, or writing something else
 

@@ -1,5 +1,5 @@
 -- Generic reading in stages: characters and prefix (1 to 6), then the length (7), then the checksum (8 and 9).
-use mathlib.Core.Path.{_≡_, sym, ap, ap₂, _∙_}
+use mathlib.Core.Path.{_≡_, refl, sym, ap, ap₂, _∙_}
 use mathlib.Core.Bool.{false}
 use mathlib.Core.List.{List, [], _∷_}
 use Prim.Native.Nat.{ℕ, _+_, _-_, _≤_, _<_}
@@ -14,8 +14,12 @@ use Rattle.answers.specs.declared.Verdict.the-variants as verdict
 use Rattle.answers.proofs.Orders.{accepted-only}
 use Rattle.answers.proofs.Exact.{reading-injective, reading-apart, payload-length}
 use Rattle.answers.proofs.Refusals.{verdict-apart, verdict-injective}
+use Rattle.checksum.specs.Parameters.{constantFor}
+use Rattle.checksum.specs.declared.Checksum.{Checksum}
 use Rattle.decode.specs.Splitting.{partsOf, splitVerdict}
 use Rattle.decode.specs.Asked.{sumRules, sumVerdict}
+use Rattle.decode.specs.Places.{Place, further, startOf}
+use Rattle.decode.specs.Promises.{DataPartGiven, PrefixPartGiven}
 use Rattle.decode.specs.declared.Parts.{Parts}
 use Rattle.decode.specs.declared.Parted.the-variants as parted
 use Rattle.decode.proofs.Stages.{rest-decides, stage-refuses}
@@ -114,9 +118,30 @@ module _ (constant : ℕ) (s : List ℕ) (m n : ℕ) (read : reading.Accepted m 
 
 -- ---- the parts that are handed back
 
-module _ (constant : ℕ) (s part : List ℕ) where
-  pub part-refused : (n : ℕ) → reading.Refused n ≡ readVerdict constant s → [] ≡ partOf (readVerdict constant s) part
-  part-refused n e = ap (λ (r : Reading). partOf r part) e
+module _ (checksum : Checksum) (lent : Place) (s : List ℕ) where
+  module _ (n : ℕ) (read : reading.Refused n ≡ readVerdict (constantFor checksum) s) where
+    pub data-part-refused : DataPartGiven checksum lent s lent []
+    data-part-refused =
+        record {
+          content = ap (λ (r : Reading). partOf r (payload s)) read;
+          place =
+              ap (λ (k : ℕ). (lent .0, k)) (let e : lent .1 ≡ 0 + lent .1 = omega arith in e)
+              ∙ ap (λ (r : Reading). further lent (startOf r (length (prefixPart s) + 1))) read;
+        }
 
-  pub part-accepted : (m n : ℕ) → reading.Accepted m n ≡ readVerdict constant s → part ≡ partOf (readVerdict constant s) part
-  part-accepted m n e = ap (λ (r : Reading). partOf r part) e
+    pub prefix-part-refused : PrefixPartGiven checksum lent s lent []
+    prefix-part-refused = record { content = ap (λ (r : Reading). partOf r (prefixPart s)) read; place = refl }
+
+  module _ (m n : ℕ) (read : reading.Accepted m n ≡ readVerdict (constantFor checksum) s) (part : List ℕ) where
+    pub data-part-accepted : (at : Place) → at ≡ further lent (m + 1) → part ≡ take n (drop (m + 1) s) → DataPartGiven checksum lent s at part
+    data-part-accepted at there is =
+        record {
+          content = is ∙ read-payload (constantFor checksum) s m n read ∙ ap (λ (r : Reading). partOf r (payload s)) read;
+          place =
+              there ∙ ap (λ (k : ℕ). further lent (k + 1)) (read-prefix-length (constantFor checksum) s m n read)
+              ∙ ap (λ (r : Reading). further lent (startOf r (length (prefixPart s) + 1))) read;
+        }
+
+    pub prefix-part-accepted : (at : Place) → at ≡ lent → part ≡ take m s → PrefixPartGiven checksum lent s at part
+    prefix-part-accepted at there is =
+        record { content = is ∙ read-prefix (constantFor checksum) s m n read ∙ ap (λ (r : Reading). partOf r (prefixPart s)) read; place = there }

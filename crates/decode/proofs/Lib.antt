@@ -8,4 +8,6 @@ pub mod Own
 pub mod Generic
 pub mod Segwit
 pub mod Rooms
+pub mod Handed
+pub mod Numbered
 pub mod Excluded

@@ -1,7 +1,7 @@
 -- What each public function promises, and that two answers which keep the promise are equal.
 use mathlib.Core.Path.{_≡_}
 use mathlib.Core.List.{List}
-use Prim.Native.Nat.{ℕ}
+use Prim.Native.Nat.{ℕ, _+_}
 use lib.ListN.{length}
 use Rattle.laws.proofs.Bools.{same}
 use Rattle.paper.specs.Bits.{toBytes}
@@ -11,6 +11,7 @@ use Rattle.answers.specs.declared.Address.{Address}
 use Rattle.answers.specs.declared.Written.{Written}
 use Rattle.checksum.specs.Parameters.{constantFor}
 use Rattle.checksum.specs.declared.Checksum.{Checksum}
+use Rattle.decode.specs.Places.{Place, further, startOf}
 use Rattle.decode.specs.Symbols.{readSymbolsVerdict}
 use Rattle.decode.specs.Splitting.{splitVerdict}
 use Rattle.decode.specs.declared.Parted.{Parted}
@@ -22,19 +23,23 @@ WasRead checksum s r = r ≡ readVerdict (constantFor checksum) s
 pub was-read-once : (checksum : Checksum) (s : List ℕ) (r r′ : Reading) → WasRead checksum s r → WasRead checksum s r′ → r ≡ r′
 was-read-once checksum s r r′ p q = same p q
 
--- decode::data_part
-abbrev pub DataPartGiven : Checksum → List ℕ → List ℕ → Type 0
-DataPartGiven checksum s r = r ≡ partOf (readVerdict (constantFor checksum) s) (payload s)
+-- decode::data_part: what the part holds, and that it lies in the caller's slice, after the prefix and the separator
+pub record DataPartGiven (checksum : Checksum) (lent : Place) (s : List ℕ) (at : Place) (r : List ℕ) : Type 0 where
+  pub content : r ≡ partOf (readVerdict (constantFor checksum) s) (payload s)
+  pub place : at ≡ further lent (startOf (readVerdict (constantFor checksum) s) (length (prefixPart s) + 1))
 
-pub data-part-given-once : (checksum : Checksum) (s r r′ : List ℕ) → DataPartGiven checksum s r → DataPartGiven checksum s r′ → r ≡ r′
-data-part-given-once checksum s r r′ p q = same p q
+pub data-part-given-once : (checksum : Checksum) (lent : Place) (s : List ℕ) (at at′ : Place) (r r′ : List ℕ)
+    → DataPartGiven checksum lent s at r → DataPartGiven checksum lent s at′ r′ → (at ≡ at′) × (r ≡ r′)
+data-part-given-once checksum lent s at at′ r r′ p q = (same (p .place) (q .place), same (p .content) (q .content))
 
--- decode::prefix_part
-abbrev pub PrefixPartGiven : Checksum → List ℕ → List ℕ → Type 0
-PrefixPartGiven checksum s r = r ≡ partOf (readVerdict (constantFor checksum) s) (prefixPart s)
+-- decode::prefix_part: the same of the prefix, which starts where the caller's slice does
+pub record PrefixPartGiven (checksum : Checksum) (lent : Place) (s : List ℕ) (at : Place) (r : List ℕ) : Type 0 where
+  pub content : r ≡ partOf (readVerdict (constantFor checksum) s) (prefixPart s)
+  pub place : at ≡ lent
 
-pub prefix-part-given-once : (checksum : Checksum) (s r r′ : List ℕ) → PrefixPartGiven checksum s r → PrefixPartGiven checksum s r′ → r ≡ r′
-prefix-part-given-once checksum s r r′ p q = same p q
+pub prefix-part-given-once : (checksum : Checksum) (lent : Place) (s : List ℕ) (at at′ : Place) (r r′ : List ℕ)
+    → PrefixPartGiven checksum lent s at r → PrefixPartGiven checksum lent s at′ r′ → (at ≡ at′) × (r ≡ r′)
+prefix-part-given-once checksum lent s at at′ r r′ p q = (same (p .place) (q .place), same (p .content) (q .content))
 
 -- decode::read_symbols
 pub record SymbolsRead (checksum : Checksum) (s before : List ℕ) (r : Written) (after : List ℕ) : Type 0 where

@@ -38,6 +38,7 @@ ghost use Rattle.answers.specs.Numbers.{numberOfVerdict};
 ghost use Rattle.checksum.specs.Parameters.{constantFor};
 ghost use Rattle.decode.specs.Asked.{splitAddress, versionGiven, sumVerdict, programIn, judgement};
 ghost use Rattle.decode.specs.Numbers.{numberOfParted, numberOfVersion};
+ghost use Rattle.decode.specs.Places.{further};
 ghost use Rattle.decode.specs.Promises.{WasRead, DataPartGiven, PrefixPartGiven, SymbolsRead, BytesRead, AddressChecked, AddressRead, WasSplit};
 
 // A string taken apart at its last separator: how long the prefix is, and how many characters stand after the separator.
@@ -79,7 +80,7 @@ pub fn read(checksum: Checksum, s: &[u8]) -> Reading
 
 // The data part with the checksum taken off, where it lies in the caller's slice; the empty part on a refusal.
 pub fn data_part(checksum: Checksum, s: &[u8]) -> &[u8]
-    ensures { λ r. ⌜ DataPartGiven checksum (now (s .entry)) (now r) ⌝ }
+    ensures { λ r. ⌜ DataPartGiven checksum (s .entry .ptr) (now (s .entry)) (r .ptr) (now r) ⌝ }
 {
     let reading = read(checksum, s);
     let Reading::Accepted(prefix, symbols) = reading else {
@@ -90,7 +91,7 @@ pub fn data_part(checksum: Checksum, s: &[u8]) -> &[u8]
 
 // The prefix, likewise.
 pub fn prefix_part(checksum: Checksum, s: &[u8]) -> &[u8]
-    ensures { λ r. ⌜ PrefixPartGiven checksum (now (s .entry)) (now r) ⌝ }
+    ensures { λ r. ⌜ PrefixPartGiven checksum (s .entry .ptr) (now (s .entry)) (r .ptr) (now r) ⌝ }
 {
     let reading = read(checksum, s);
     let Reading::Accepted(prefix, _) = reading else {
@@ -274,7 +275,7 @@ fn program_of(characters: &[u8]) -> &[u8]
 // So many characters after a prefix of this length and the separator.
 fn part_after(s: &[u8], prefix: usize, symbols: usize) -> &[u8]
     requires { ⌜ prefix + 1 + symbols ≤ length (now s) ⌝ }
-    ensures { λ r. ⌜ now r ≡ take symbols (drop (prefix + 1) (now (s .entry))) ⌝ }
+    ensures { λ r. ⌜ (now r ≡ take symbols (drop (prefix + 1) (now (s .entry)))) × (r .ptr ≡ further (s .entry .ptr) (prefix + 1)) ⌝ }
 {
     let start = prefix + 1;
     &s[start..start + symbols]

@@ -39,7 +39,7 @@ judge-requires c κs = search needs
 
 returns-2 : tie.Need-returns-2
 returns-2 c = c .judge .ensures
-    ∙ ap₂ judgement (parts-prefix (c .before .before .before .before .before .before .before .before .args .s .now) _ (own (c .before .before .before))) (c .before .part-after .ensures ∙ parts-data (c .before .before .before .before .before .before .before .before .args .s .now) _ (own (c .before .before .before)))
+    ∙ ap₂ judgement (parts-prefix (c .before .before .before .before .before .before .before .before .args .s .now) _ (own (c .before .before .before))) (c .before .part-after .ensures .0 ∙ parts-data (c .before .before .before .before .before .before .before .before .args .s .now) _ (own (c .before .before .before)))
     ∙ address-judged (c .before .before .before .before .before .before .before .before .args .s .now) _ (sym (c .before .before .before .before .parted .given .1) ∙ c .before .before .before .before .before .before .split-address .ensures)
 
 pub check-address-spec : {M : Type 1} → statement M

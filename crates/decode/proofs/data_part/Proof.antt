@@ -1,9 +1,8 @@
 -- The payload of a string that is read, and nothing of one that is refused.
 use mathlib.Core.Path.{sym, _∙_}
 use native.Mathlib.Omega.{arith}
-use Rattle.answers.specs.Reading.{payload}
 use Rattle.checksum.specs.Parameters.{constantFor}
-use Rattle.decode.proofs.Generic.{read-length, read-payload, part-refused, part-accepted}
+use Rattle.decode.proofs.Generic.{read-length, data-part-refused, data-part-accepted}
 use borrow.Author.Needs.{needs}
 use Rattle.decode.proofs.data_part.Statement.{statement}
 use Rattle.decode.proofs.data_part.Tie as tie
@@ -21,13 +20,13 @@ slice-aggregate-result : tie.Need-slice-aggregate-result
 slice-aggregate-result c = search needs
 
 returns : tie.Need-returns
-returns c = part-refused (constantFor (c .before .before .before .before .before .args .checksum)) (c .before .before .before .before .before .args .s .now) (payload (c .before .before .before .before .before .args .s .now)) _ (sym (c .before .enum-told .given .1) ∙ c .before .before .before .read .ensures)
+returns c = data-part-refused (c .before .before .before .before .before .args .checksum) (c .before .before .before .before .before .args .s .ptr) (c .before .before .before .before .before .args .s .now) _ (sym (c .before .enum-told .given .1) ∙ c .before .before .before .read .ensures)
 
 part-after-requires : tie.Need-part-after-requires
 part-after-requires c κs = omega (arith, read-length (constantFor (c .before .before .before .before .before .args .checksum)) (c .before .before .before .before .before .args .s .now) _ _ (sym (c .before .reading .given .1) ∙ c .before .before .before .read .ensures))
 
 returns-2 : tie.Need-returns-2
-returns-2 c = c .part-after .ensures ∙ read-payload (constantFor (c .before .before .before .before .before .before .args .checksum)) (c .before .before .before .before .before .before .args .s .now) _ _ (sym (c .before .before .reading .given .1) ∙ c .before .before .before .before .read .ensures) ∙ part-accepted (constantFor (c .before .before .before .before .before .before .args .checksum)) (c .before .before .before .before .before .before .args .s .now) (payload (c .before .before .before .before .before .before .args .s .now)) _ _ (sym (c .before .before .reading .given .1) ∙ c .before .before .before .before .read .ensures)
+returns-2 c = data-part-accepted (c .before .before .before .before .before .before .args .checksum) (c .before .before .before .before .before .before .args .s .ptr) (c .before .before .before .before .before .before .args .s .now) _ _ (sym (c .before .before .reading .given .1) ∙ c .before .before .before .before .read .ensures) _ _ (c .part-after .ensures .1) (c .part-after .ensures .0)
 
 pub data-part-spec : {M : Type 1} → statement M
 data-part-spec =

@@ -1,5 +1,5 @@
 -- A part of the slice that is asked for by its length.
-use mathlib.Core.Path.{_≡_, ap}
+use mathlib.Core.Path.{_≡_, refl, ap}
 use Prim.Native.Nat.{ℕ, _+_, _-_}
 use native.Mathlib.Omega.{arith}
 use lib.ListN.{take, drop}
@@ -23,9 +23,11 @@ part-result-end : tie.Need-part-result-end
 part-result-end c = search needs
 
 returns : tie.Need-returns
-returns c =
-    ap (λ (n : ℕ). take n (drop (c .before .args .prefix + 1) (c .before .args .s .now)))
-    (let e : c .before .args .prefix + 1 + c .before .args .symbols - (c .before .args .prefix + 1) ≡ c .before .args .symbols = omega arith in e)
+returns c = (
+  ap (λ (n : ℕ). take n (drop (c .before .args .prefix + 1) (c .before .args .s .now)))
+      (let e : c .before .args .prefix + 1 + c .before .args .symbols - (c .before .args .prefix + 1) ≡ c .before .args .symbols = omega arith in e),
+  refl,
+)
 
 pub part-after-spec : {M : Type 1} → statement M
 part-after-spec =

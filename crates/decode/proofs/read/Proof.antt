@@ -19,7 +19,7 @@ own c = split-own (c .before .before .before .before .before .args .s .now) _ (s
 asked : (c : tie.After-check) → c .check .result ≡ sumVerdict (constantFor (c .before .before .before .before .before .before .before .before .before .args .checksum)) (prefixPart (c .before .before .before .before .before .before .before .before .before .args .s .now)) (dataPart (c .before .before .before .before .before .before .before .before .before .args .s .now))
 asked c =
     c .check .ensures
-    ∙ ap₂ (sumVerdict (constantFor (c .before .before .before .before .before .before .before .before .before .args .checksum))) (parts-prefix (c .before .before .before .before .before .before .before .before .before .args .s .now) _ (own (c .before .before .before .before))) (c .before .part-after .ensures ∙ parts-data (c .before .before .before .before .before .before .before .before .before .args .s .now) _ (own (c .before .before .before .before)))
+    ∙ ap₂ (sumVerdict (constantFor (c .before .before .before .before .before .before .before .before .before .args .checksum))) (parts-prefix (c .before .before .before .before .before .before .before .before .before .args .s .now) _ (own (c .before .before .before .before))) (c .before .part-after .ensures .0 ∙ parts-data (c .before .before .before .before .before .before .before .before .before .args .s .now) _ (own (c .before .before .before .before)))
 
 split-requires : tie.Need-split-requires
 split-requires c κs = search needs

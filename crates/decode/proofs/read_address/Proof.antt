@@ -21,7 +21,7 @@ own : (c : tie.After-known-told) → OwnParts (c .before .before .before .before
 own c = address-own (c .before .before .before .before .before .before .args .s .now) _ (sym (c .before .parted .given .1) ∙ c .before .before .before .split-address .ensures)
 
 characters : (c : tie.After-part-after) → c .part-after .result .now ≡ dataPart (c .before .before .before .before .before .before .before .args .s .now)
-characters c = c .part-after .ensures ∙ parts-data (c .before .before .before .before .before .before .before .args .s .now) _ (own (c .before))
+characters c = c .part-after .ensures .0 ∙ parts-data (c .before .before .before .before .before .before .before .args .s .now) _ (own (c .before))
 
 judged : (c : tie.After-judge) → c .judge .result ≡ addressVerdict (c .before .before .before .before .before .before .before .before .before .args .s .now)
 judged c =

@@ -27,7 +27,7 @@ same-length : tie.Need-same-length
 same-length c = search needs
 
 returns : tie.Need-returns
-returns c = bytes-written (c .before .before .before .before .before .before .before .before .before .before .before .args .checksum) (c .before .before .before .before .before .before .before .before .before .before .before .args .s .now) _ _ _ (sym (c .before .before .before .before .before .before .prefix .given .1) ∙ c .before .before .before .before .before .before .before .before .read .ensures) _ (c .before .before .before .before .part-after .ensures ∙ read-payload (constantFor (c .before .before .before .before .before .before .before .before .before .before .before .args .checksum)) (c .before .before .before .before .before .before .before .before .before .before .before .args .s .now) _ _ (sym (c .before .before .before .before .before .before .prefix .given .1) ∙ c .before .before .before .before .before .before .before .before .read .ensures)) _ _ (c .before .before .characters-to-bytes .ensures)
+returns c = bytes-written (c .before .before .before .before .before .before .before .before .before .before .before .args .checksum) (c .before .before .before .before .before .before .before .before .before .before .before .args .s .now) _ _ _ (sym (c .before .before .before .before .before .before .prefix .given .1) ∙ c .before .before .before .before .before .before .before .before .read .ensures) _ (c .before .before .before .before .part-after .ensures .0 ∙ read-payload (constantFor (c .before .before .before .before .before .before .before .before .before .before .before .args .checksum)) (c .before .before .before .before .before .before .before .before .before .before .before .args .s .now) _ _ (sym (c .before .before .before .before .before .before .prefix .given .1) ∙ c .before .before .before .before .before .before .before .before .read .ensures)) _ _ (c .before .before .characters-to-bytes .ensures)
 
 returns-2 : tie.Need-returns-2
 returns-2 c = bytes-refused (c .before .before .before .before .before .before .args .checksum) (c .before .before .before .before .before .before .args .s .now) _ _ (sym (c .before .number .given .1) ∙ c .before .before .before .read .ensures)
