@@ -1,10 +1,15 @@
 pub mod Residue
 pub mod Windows
 pub mod Counting
+pub mod Order
 pub mod Changes
 pub mod Turns
 pub mod Symbols
+pub mod First
+pub mod Candidates
 pub mod Outcome
 pub mod Consequences
 pub mod Fixed
 pub mod Wrong
+pub mod Right
+pub mod Numbers

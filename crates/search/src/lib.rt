@@ -17,6 +17,9 @@ const LARGEST_WINDOW: usize = 128;
 
 const SCRATCH_WORDS: usize = 65536;
 
+// A pattern has at most 4 changes, and one of them stands at the highest place.
+const CHANGES_BELOW: u8 = 3;
+
 // A nonzero change of one symbol, at a place counted from the end. Zeros where a pattern has no such change.
 pub struct Change {
     pub place: u8,
@@ -54,7 +57,7 @@ pub fn search(window: usize, scratch: &mut [u32], budget: u64) -> Found
     }
     wipe(scratch);
     let highest = (window - 1) as u8;
-    let found = walk(3, 1, highest, 0, budget);
+    let found = walk(CHANGES_BELOW, 1, highest, 0, budget);
     let Found::Shown(rest, steps) = found else {
         return found;
     };
