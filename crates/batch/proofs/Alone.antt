@@ -88,7 +88,7 @@ module _ (buffer : List ℕ) (b : Batch) (enough : b .count ≤ length (b .entri
   forms-agree r n after p q =
       (ap (λ j. numberOfVerdict (j .verdict)) p ∙ ap numberOfVerdict same-verdict ∙ sym (q .number), ap (λ j. entriesOf (j .batch)) p ∙ same-entries ∙ sym (q .entries))
 
--- ---- wrong answers ruled out: an entry outside the buffer does not stop the batch, and 33 entries are refused
+-- ---- an entry outside the buffer does not stop the batch, and 33 entries are refused
 
 unfoldable pub taproot-text : List ℕ
 taproot-text = bytes "bc1pdp43hj65vxw49rts6kcw35u6r6tgzguyr03vvveeewjqpn05efzq7un9w0"
@@ -104,13 +104,13 @@ two-computed : map (judged taproot-text) two-entries ≡ two-judged
 unfolding computing entryVerdict judged taproot-text
 two-computed = refl
 
-pub not-stopped-by-20 : (r : ℕ) (after : List Entry) → BatchJudged taproot-text two-entries r after → after ≡ two-judged
-not-stopped-by-20 r after is = lent-all taproot-text two-entries r after is (omega arith) ∙ two-computed
+pub two-lent : (r : ℕ) (after : List Entry) → BatchJudged taproot-text two-entries r after → after ≡ two-judged
+two-lent r after is = lent-all taproot-text two-entries r after is (omega arith) ∙ two-computed
 
-pub not-stopped-by-value : (rest : List Entry) (r : Judged) → AllJudged taproot-text (record { entries = two-entries ++ rest; count = 2 }) r
+pub two-by-value : (rest : List Entry) (r : Judged) → AllJudged taproot-text (record { entries = two-entries ++ rest; count = 2 }) r
     → r .batch .entries ≡ two-judged ++ rest
 unfolding computing judgedAll countVerdict entryVerdict judged taproot-text
-not-stopped-by-value rest r is = rw is refl
+two-by-value rest r is = rw is refl
 
 pub thirty-three-refused : (buffer : List ℕ) (e : Entry) (r : ℕ) (after : List Entry) → BatchJudged buffer (replicate 33 e) r after
     → (r ≡ 19) × (after ≡ replicate 33 e)
