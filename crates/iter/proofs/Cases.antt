@@ -1,9 +1,8 @@
 -- Worked cases, computed: the program of BIP-173's example address `BC1QW508D6QEJXTDG4Y5R3ZARVARY0C5XW7KV8F3T4`, and the smallest inputs
--- of each answer, which rule out functions that refuse everything or accept everything.
-use mathlib.Core.Path.{_≡_, refl, ap}
+-- of each answer.
+use mathlib.Core.Path.{_≡_, refl}
 use mathlib.Core.List.{List, [], _∷_, map}
 use Prim.Native.Nat.{ℕ}
-use native.Mathlib.Omega.{arith}
 use Rattle.laws.specs.Text.{bytes}
 use Rattle.paper.specs.Charset.{charset, symbol}
 use Rattle.paper.specs.Bits.{bitsOf, bits, spelled, groups, whole, leftover, toBytes, padding, toSymbols}
@@ -12,9 +11,7 @@ use Rattle.answers.specs.Reading.{roomSmall, writtenInto}
 use Rattle.answers.specs.declared.Written.{Written}
 use Rattle.answers.specs.declared.Written.the-variants as written
 use Rattle.answers.specs.declared.Verdict.the-variants.{Accepted, Refused}
-use Rattle.iter.specs.Promises.{SymbolsWritten, BytesWritten, CharactersWritten, SymbolsBegun, BytesBegun}
-use Rattle.iter.specs.declared.BytesToSymbols.{BytesToSymbols}
-use Rattle.iter.specs.declared.SymbolsToBytes.{SymbolsToBytes}
+use Rattle.iter.specs.Promises.{SymbolsWritten, BytesWritten, CharactersWritten}
 
 unfoldable pub program : List ℕ
 program =
@@ -68,10 +65,3 @@ pub two-characters-written : (r : Written) (after : List ℕ) → CharactersWrit
     → (r ≡ written.Accepted 1) × (after ≡ 255 ∷ 9 ∷ [])
 unfolding writtenInto roomSmall toBytes whole groups spelled bits bitsOf symbol charset
 two-characters-written r after p = (p .answer, p .buffer)
-
--- walks that start behind any list, and so give nothing
-pub symbols-not-at-the-end : SymbolsBegun (record { at = 18446744073709551615 }) → ⊥
-symbols-not-at-the-end p = let e : _≡_ {A = ℕ} 18446744073709551615 0 = ap (λ (w : BytesToSymbols). w .at) p in omega arith
-
-pub bytes-not-at-the-end : BytesBegun (record { at = 18446744073709551615 }) → ⊥
-bytes-not-at-the-end p = let e : _≡_ {A = ℕ} 18446744073709551615 0 = ap (λ (w : SymbolsToBytes). w .at) p in omega arith

@@ -9,3 +9,5 @@ pub mod Characters
 pub mod Answers
 pub mod Walks
 pub mod Cases
+pub mod Numbers
+pub mod Excluded

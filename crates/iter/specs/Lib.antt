@@ -1,3 +1,4 @@
 pub mod Writing
 pub mod Steps
+pub mod Numbers
 pub mod Promises

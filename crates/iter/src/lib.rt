@@ -16,6 +16,9 @@ ghost use Rattle.gf32.specs.Bytes.{classOf};
 ghost use Rattle.answers.specs.Rules.{paddingVerdict};
 ghost use Rattle.iter.specs.Promises.{SymbolsCounted, BytesCounted, SymbolsWritten, BytesWritten, CharactersWritten, PaddingJudged, CharactersJudged, SymbolsBegun, SymbolGiven, BytesBegun, ByteGiven};
 
+// Of the bits left over at the end, so many may be padding.
+const MAX_PADDING: usize = 4;
+
 // A walk over the symbols of a slice of bytes: how many it gave. Every count is a legal walk.
 pub struct BytesToSymbols {
     pub at: usize,
@@ -148,12 +151,12 @@ impl SymbolsToBytes {
     }
 }
 
-// The bits left over of so many symbols are low bits of the last, unless there are over four of them.
+// The bits left over of so many symbols are low bits of the last, unless there are too many of them.
 fn padding_after(count: usize, last: u8) -> Verdict
     ensures { λ r. ⌜ ((symbols : List ℕ) → length symbols ≡ count → getD symbols (count - 1) 0 % 32 ≡ last % 32 → r ≡ paddingVerdict symbols) ⌝ }
 {
     let left = count % 8 * 5 % 8;
-    if 4 < left {
+    if MAX_PADDING < left {
         return Verdict::Refused(PADDING_LONG);
     }
     if last % (1 << left) != 0 {
