@@ -3,6 +3,7 @@ use answers::PROGRAM_LENGTH;
 use answers::PROGRAM_LENGTH_VERSION_0;
 use answers::VERSION_UNKNOWN;
 use answers::Verdict;
+ghost use mathlib.Core.Path.{_≡_};
 ghost use Rattle.segwit.specs.Promises.{VersionChecked, ProgramLengthChecked};
 
 // The longest address, in bytes.
@@ -54,4 +55,17 @@ pub fn check_program_length(version: u8, length: usize) -> Verdict
         return Verdict::Accepted;
     }
     Verdict::Refused(PROGRAM_LENGTH_VERSION_0)
+}
+
+// The two numbers that other crates use, held to the papers here.
+fn max_string_length() -> usize
+    ensures { λ r. ⌜ r ≡ 90 ⌝ }
+{
+    MAX_STRING_LENGTH
+}
+
+fn taproot() -> u8
+    ensures { λ r. ⌜ r ≡ 1 ⌝ }
+{
+    VERSION_1
 }
