@@ -104,6 +104,10 @@ two-computed : map (judged taproot-text) two-entries ≡ two-judged
 unfolding computing entryVerdict judged taproot-text
 two-computed = refl
 
+pub two-meet : BatchJudged taproot-text two-entries 0 two-judged
+unfolding computing batchVerdict countVerdict entryVerdict judged taproot-text
+two-meet = record { number = refl; entries = refl }
+
 pub two-lent : (r : ℕ) (after : List Entry) → BatchJudged taproot-text two-entries r after → after ≡ two-judged
 two-lent r after is = lent-all taproot-text two-entries r after is (omega arith) ∙ two-computed
 

@@ -46,6 +46,10 @@ unfolding paddingVerdict paddingLong paddingNotZero padding leftover bits bitsOf
 two-bits-clear = refl
 
 -- one byte of ones: written where there is room for two symbols, with what stands past them kept; refused with 17 where there is not
+pub one-byte-meets : SymbolsWritten (255 ∷ []) (9 ∷ 9 ∷ 9 ∷ []) (written.Accepted 2) (31 ∷ 28 ∷ 9 ∷ [])
+unfolding writtenInto roomSmall toSymbols whole groups spelled bits bitsOf
+one-byte-meets = record { answer = refl; buffer = refl }
+
 pub one-byte-written : (r : Written) (after : List ℕ) → SymbolsWritten (255 ∷ []) (9 ∷ 9 ∷ 9 ∷ []) r after
     → (r ≡ written.Accepted 2) × (after ≡ 31 ∷ 28 ∷ 9 ∷ [])
 unfolding writtenInto roomSmall toSymbols whole groups spelled bits bitsOf
@@ -56,6 +60,14 @@ unfolding writtenInto roomSmall toSymbols whole groups spelled bits bitsOf
 one-byte-refused r after p = (p .answer, p .buffer)
 
 -- its two symbols, and its two characters in upper case
+pub two-symbols-meets : BytesWritten (31 ∷ 28 ∷ []) (9 ∷ 9 ∷ []) (written.Accepted 1) (255 ∷ 9 ∷ [])
+unfolding writtenInto roomSmall toBytes whole groups spelled bits bitsOf
+two-symbols-meets = record { answer = refl; buffer = refl }
+
+pub two-characters-meets : CharactersWritten (bytes "LU") (9 ∷ 9 ∷ []) (written.Accepted 1) (255 ∷ 9 ∷ [])
+unfolding writtenInto roomSmall toBytes whole groups spelled bits bitsOf symbol charset
+two-characters-meets = record { answer = refl; buffer = refl }
+
 pub two-symbols-written : (r : Written) (after : List ℕ) → BytesWritten (31 ∷ 28 ∷ []) (9 ∷ 9 ∷ []) r after
     → (r ≡ written.Accepted 1) × (after ≡ 255 ∷ 9 ∷ [])
 unfolding writtenInto roomSmall toBytes whole groups spelled bits bitsOf

@@ -134,34 +134,34 @@ pub bytes-not-at-the-end : BytesBegun (record { at = 18446744073709551615 }) →
 bytes-not-at-the-end p = let e : _≡_ {A = ℕ} 18446744073709551615 0 = ap (λ (w : SymbolsToBytes). w .at) p in omega arith
 
 -- steps that never leave the first value, that give it again, that end one value early, and that give a value past the end
-pub symbols-not-staying : SymbolGiven (255 ∷ []) 0 (step.Symbol 31 (record { at = 0 })) → ⊥
+pub symbols-not-staying : SymbolGiven (255 ∷ []) (record { at = 0 }) (step.Symbol 31 (record { at = 0 })) → ⊥
 unfolding symbolStep toSymbols whole groups spelled bits bitsOf
 symbols-not-staying p = let e : _≡_ {A = ℕ} 0 1 = ap placeOfSymbolStep p in omega arith
 
-pub symbols-not-repeating : SymbolGiven (255 ∷ []) 1 (step.Symbol 31 (record { at = 2 })) → ⊥
+pub symbols-not-repeating : SymbolGiven (255 ∷ []) (record { at = 1 }) (step.Symbol 31 (record { at = 2 })) → ⊥
 unfolding symbolStep toSymbols whole groups spelled bits bitsOf
 symbols-not-repeating p = let e : _≡_ {A = ℕ} 31 28 = ap symbolOfSymbolStep p in omega arith
 
-pub symbols-not-ending-early : SymbolGiven (255 ∷ []) 1 step.End → ⊥
+pub symbols-not-ending-early : SymbolGiven (255 ∷ []) (record { at = 1 }) step.End → ⊥
 unfolding symbolStep toSymbols whole groups spelled bits bitsOf
 symbols-not-ending-early p = let e : _≡_ {A = ℕ} 0 1 = ap givenOfSymbolStep p in omega arith
 
-pub symbols-not-going-on : SymbolGiven (255 ∷ []) 2 (step.Symbol 0 (record { at = 3 })) → ⊥
+pub symbols-not-going-on : SymbolGiven (255 ∷ []) (record { at = 2 }) (step.Symbol 0 (record { at = 3 })) → ⊥
 unfolding symbolStep toSymbols whole groups spelled bits bitsOf
 symbols-not-going-on p = let e : _≡_ {A = ℕ} 1 0 = ap givenOfSymbolStep p in omega arith
 
-pub bytes-not-staying : ByteGiven (31 ∷ 0 ∷ 31 ∷ 0 ∷ []) 0 (byte.Byte 248 (record { at = 0 })) → ⊥
+pub bytes-not-staying : ByteGiven (31 ∷ 0 ∷ 31 ∷ 0 ∷ []) (record { at = 0 }) (byte.Byte 248 (record { at = 0 })) → ⊥
 unfolding byteStep toBytes whole groups spelled bits bitsOf
 bytes-not-staying p = let e : _≡_ {A = ℕ} 0 1 = ap placeOfByteStep p in omega arith
 
-pub bytes-not-repeating : ByteGiven (31 ∷ 0 ∷ 31 ∷ 0 ∷ []) 1 (byte.Byte 248 (record { at = 2 })) → ⊥
+pub bytes-not-repeating : ByteGiven (31 ∷ 0 ∷ 31 ∷ 0 ∷ []) (record { at = 1 }) (byte.Byte 248 (record { at = 2 })) → ⊥
 unfolding byteStep toBytes whole groups spelled bits bitsOf
 bytes-not-repeating p = let e : _≡_ {A = ℕ} 248 62 = ap byteOfByteStep p in omega arith
 
-pub bytes-not-ending-early : ByteGiven (31 ∷ 0 ∷ 31 ∷ 0 ∷ []) 1 byte.End → ⊥
+pub bytes-not-ending-early : ByteGiven (31 ∷ 0 ∷ 31 ∷ 0 ∷ []) (record { at = 1 }) byte.End → ⊥
 unfolding byteStep toBytes whole groups spelled bits bitsOf
 bytes-not-ending-early p = let e : _≡_ {A = ℕ} 0 1 = ap givenOfByteStep p in omega arith
 
-pub bytes-not-going-on : ByteGiven (31 ∷ 0 ∷ 31 ∷ 0 ∷ []) 2 (byte.Byte 0 (record { at = 3 })) → ⊥
+pub bytes-not-going-on : ByteGiven (31 ∷ 0 ∷ 31 ∷ 0 ∷ []) (record { at = 2 }) (byte.Byte 0 (record { at = 3 })) → ⊥
 unfolding byteStep toBytes whole groups spelled bits bitsOf
 bytes-not-going-on p = let e : _≡_ {A = ℕ} 1 0 = ap givenOfByteStep p in omega arith

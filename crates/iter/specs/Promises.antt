@@ -76,11 +76,11 @@ pub symbols-begun-once : (r s : BytesToSymbols) → SymbolsBegun r → SymbolsBe
 symbols-begun-once r s p q = same p q
 
 -- iter::BytesToSymbols::next
-abbrev pub SymbolGiven : List ℕ → ℕ → SymbolStep → Type 0
-SymbolGiven bytes at r = r ≡ symbolStep bytes at
+abbrev pub SymbolGiven : List ℕ → BytesToSymbols → SymbolStep → Type 0
+SymbolGiven bytes self r = r ≡ symbolStep bytes (self .at)
 
-pub symbol-given-once : (bytes : List ℕ) (at : ℕ) (r s : SymbolStep) → SymbolGiven bytes at r → SymbolGiven bytes at s → r ≡ s
-symbol-given-once bytes at r s p q = same p q
+pub symbol-given-once : (bytes : List ℕ) (self : BytesToSymbols) (r s : SymbolStep) → SymbolGiven bytes self r → SymbolGiven bytes self s → r ≡ s
+symbol-given-once bytes self r s p q = same p q
 
 -- iter::SymbolsToBytes::new
 abbrev pub BytesBegun : SymbolsToBytes → Type 0
@@ -90,8 +90,8 @@ pub bytes-begun-once : (r s : SymbolsToBytes) → BytesBegun r → BytesBegun s 
 bytes-begun-once r s p q = same p q
 
 -- iter::SymbolsToBytes::next
-abbrev pub ByteGiven : List ℕ → ℕ → ByteStep → Type 0
-ByteGiven symbols at r = r ≡ byteStep symbols at
+abbrev pub ByteGiven : List ℕ → SymbolsToBytes → ByteStep → Type 0
+ByteGiven symbols self r = r ≡ byteStep symbols (self .at)
 
-pub byte-given-once : (symbols : List ℕ) (at : ℕ) (r s : ByteStep) → ByteGiven symbols at r → ByteGiven symbols at s → r ≡ s
-byte-given-once symbols at r s p q = same p q
+pub byte-given-once : (symbols : List ℕ) (self : SymbolsToBytes) (r s : ByteStep) → ByteGiven symbols self r → ByteGiven symbols self s → r ≡ s
+byte-given-once symbols self r s p q = same p q

@@ -123,7 +123,7 @@ impl BytesToSymbols {
     }
 
     pub fn next(self, bytes: &[u8]) -> SymbolStep
-        ensures { λ r. ⌜ SymbolGiven (now (bytes .entry)) (self .at) r ⌝ }
+        ensures { λ r. ⌜ SymbolGiven (now (bytes .entry)) self r ⌝ }
     {
         let at = self.at;
         if symbols_for_bytes(bytes) <= at {
@@ -141,7 +141,7 @@ impl SymbolsToBytes {
     }
 
     pub fn next(self, symbols: &[u8]) -> ByteStep
-        ensures { λ r. ⌜ ByteGiven (now (symbols .entry)) (self .at) r ⌝ }
+        ensures { λ r. ⌜ ByteGiven (now (symbols .entry)) self r ⌝ }
     {
         let at = self.at;
         if bytes_for_symbols(symbols) <= at {

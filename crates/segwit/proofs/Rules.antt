@@ -1,6 +1,6 @@
 -- When the version and the length rules accept, and when they refuse with 12, 15 and 16, by order and equality; over answers' definitions
 -- alone. Each number lies on one side of a bound, and two different answers are never equal.
-use mathlib.Core.Path.{_≡_, sym, _∙_, subst}
+use mathlib.Core.Path.{_≡_, refl, sym, _∙_, subst}
 use mathlib.Core.Logic.{_↔_, _⊎_, inl, inr}
 use Prim.Native.Nat.{ℕ, _≤_, _<_}
 use native.Mathlib.Decide.{ℕ-discrete, decLe, decLt}
@@ -106,3 +106,17 @@ length-refused v n k = (by (outcome v n), refused-length v n k)
     by : Outcome v n → lengthVerdict v n ≡ Refused k → LengthRefusal v n k
     by (accepted t) e = absurd (verdict-apart k (sym e ∙ legal-length v n t))
     by (refused m t) e = subst (LengthRefusal v n) (verdict-injective m k (sym (refused-length v n m t) ∙ e)) t
+
+-- ---- single inputs
+
+pub key-hash-legal : LegalLength 0 20
+unfolding lengthVerdict
+key-hash-legal = length-accepted 0 20 .0 refl
+
+pub two-bytes-legal : LegalLength 1 2
+unfolding lengthVerdict
+two-bytes-legal = length-accepted 1 2 .0 refl
+
+pub neither-hash : LengthRefusal 0 21 16
+unfolding lengthVerdict
+neither-hash = length-refused 0 21 16 .0 refl
