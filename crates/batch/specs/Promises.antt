@@ -17,7 +17,7 @@ EntryJudged buffer entry r = r ≡ judged buffer entry
 pub entry-judged-once : (buffer : List ℕ) (entry r s : Entry) → EntryJudged buffer entry r → EntryJudged buffer entry s → r ≡ s
 entry-judged-once buffer entry r s p q = same p q
 
--- batch::pennywax_judge_batch
+-- batch::pennywax_apart_judge_batch
 pub record BatchJudged (buffer : List ℕ) (before : List Entry) (r : ℕ) (after : List Entry) : Type 0 where
   pub number : r ≡ numberOfVerdict (batchVerdict before)
   pub entries : after ≡ entriesAfter (batchVerdict before) buffer before

@@ -70,7 +70,7 @@ fn with_results(entry: Entry, verdict: u8, version: u8, program: usize) -> Entry
 
 // Each entry of the lent list judged in its place. The answer is a number, 0 or 19, as callers that know C have no enums.
 #[no_mangle]
-pub extern "C" fn pennywax_judge_batch(buffer: &[u8], entries: &mut [Entry]) -> u8
+pub extern "C" fn pennywax_apart_judge_batch(buffer: &[u8], entries: &mut [Entry]) -> u8
     ensures { λ r. ⌜ BatchJudged (now (buffer .entry)) (now (entries .entry)) r (now (entries .exit)) ⌝ }
 {
     if MAX_ENTRIES < entries.len() {

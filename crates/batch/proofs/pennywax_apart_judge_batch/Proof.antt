@@ -1,4 +1,4 @@
--- `pennywax_judge_batch` keeps its promise: a walk of its MIR, with a loop and a call in it. In each turn the borrow is opened and closed twice: the entry is read,
+-- `pennywax_apart_judge_batch` keeps its promise: a walk of its MIR, with a loop and a call in it. In each turn the borrow is opened and closed twice: the entry is read,
 -- `judge` is called on it, and what it returned is stored in its place. The invariant: after i turns the list is `cur buffer entries i`.
 use mathlib.Core.Path.{_≡_, refl, sym, ap, subst, _∙_}
 use Prim.Native.Nat.{ℕ, _+_, _-_, _*_, _<_, _≤_, _^_, zero-le}
@@ -60,11 +60,11 @@ use Rattle.batch.proofs.judge as judge
 use Rattle.batch.proofs.judge.Symbol as judge-def
 use Rattle.batch.proofs.judge.Symbol.{name as #batch·judge}
 use Rattle.batch.proofs.judge.Met as judge-thm
-use Rattle.batch.proofs.pennywax_judge_batch.Key.{name as #batch·pennywax-judge-batch}
-use Rattle.batch.proofs.pennywax_judge_batch as all′
-use Rattle.batch.proofs.pennywax_judge_batch.Statement as stated
-use Rattle.batch.proofs.pennywax_judge_batch.Code as code
-use Rattle.batch.proofs.pennywax_judge_batch.Code.Mir as mir′
+use Rattle.batch.proofs.pennywax_apart_judge_batch.Key.{name as #batch·pennywax-apart-judge-batch}
+use Rattle.batch.proofs.pennywax_apart_judge_batch as all′
+use Rattle.batch.proofs.pennywax_apart_judge_batch.Statement as stated
+use Rattle.batch.proofs.pennywax_apart_judge_batch.Code as code
+use Rattle.batch.proofs.pennywax_apart_judge_batch.Code.Mir as mir′
 
 abbrev Arg : Type 0
 Arg = RefT (List ℕ) × (RefT (List Entry) × Unit {0})
@@ -303,10 +303,10 @@ all-meets 𝓤 H A W mem run 𝓣 known =
     walk-meets 𝓤 H A all′.ended stayed W (goes-none-slice 𝓤 H A W 2 (0 ∷ []) tt (plain (λ _. u8)) yes, (goes-slice 𝓤 H A W 2 1 tt (plain (λ _. E.the-row)), tt))
     (all′.clauses 𝓤 H A mem run) (WpFn 𝓤 H (𝓣 .C) (𝓣 .Λ) code.function) (WpFn-mono 𝓤 H (W .laws) 𝓣 code.function) (all-walks 𝓤 H A W mem run 𝓣 known)
 
-pub pennywax-judge-batch-spec : {M : Type 1} → stated.statement M
+pub pennywax-apart-judge-batch-spec : {M : Type 1} → stated.statement M
 unfolding code.routine tablesOf
-pennywax-judge-batch-spec 𝓤 H 𝓜 𝓖 𝓡 =
+pennywax-apart-judge-batch-spec 𝓤 H 𝓜 𝓖 𝓡 =
     entered 𝓤 H (tripleOf 𝓤 H (𝓖 .A) all′.signature (all′.spec 𝓤 H (𝓖 .A) (𝓜 .mem) (𝓡 .run)))
-    (tables 𝓤 H 𝓜 𝓡 code.env .C) (tables 𝓤 H 𝓜 𝓡 code.env .Λ) #batch·pennywax-judge-batch code.function (code.unfolded 𝓤 H 𝓜 𝓡)
+    (tables 𝓤 H 𝓜 𝓡 code.env .C) (tables 𝓤 H 𝓜 𝓡 code.env .Λ) #batch·pennywax-apart-judge-batch code.function (code.unfolded 𝓤 H 𝓜 𝓡)
     (all-meets 𝓤 H (𝓖 .A) (givenOf 𝓤 H 𝓜 𝓖) (𝓜 .mem) (𝓡 .run) (tablesOf 𝓤 H 𝓜 (tables 𝓤 H 𝓜 𝓡 code.env))
     (cited 𝓤 H (Callee 𝓤 H (𝓖 .A) (𝓜 .mem) (𝓡 .run)) 𝓜 𝓡 code.env #batch·judge judge-def.routine code.calls-batch·judge (judge-thm.met 𝓤 H 𝓜 𝓖 𝓡)))
