@@ -3,14 +3,14 @@ use bech32::primitives::decode::SegwitHrpstring;
 use bech32::{Fe32, Hrp};
 
 extern "C" {
-    fn pennywax_check_address(s: *const u8, s_len: usize, version: *mut u8, length: *mut usize) -> u8;
+    fn pennywax_apart_check_address(s: *const u8, s_len: usize, version: *mut u8, length: *mut usize) -> u8;
     fn clock() -> i64;
 }
 
 fn ours(addresses: &[String]) -> u64 {
     let (mut version, mut length, mut sum) = (0u8, 0usize, 0u64);
     for s in addresses {
-        let number = unsafe { pennywax_check_address(s.as_ptr(), s.len(), &mut version, &mut length) };
+        let number = unsafe { pennywax_apart_check_address(s.as_ptr(), s.len(), &mut version, &mut length) };
         sum += u64::from(number) + length as u64;
     }
     sum

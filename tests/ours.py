@@ -1,34 +1,44 @@
-"""Our functions, called from the static libraries of the crates face and batch."""
+"""Our functions, called as C calls them: c/pennywax.c over the static libraries of the crates face and batch."""
 
 import ctypes
+import os
 import struct
 import subprocess
 from pathlib import Path
 
 ROOT = Path(__file__).resolve().parents[1]
+SHIM = ROOT / "c/pennywax.c"
+ARCHIVES = [ROOT / f"target/staticlib/lib{crate}.a" for crate in ("face", "batch")]
+GCC = ["gcc", "-std=c99", "-Wall", "-Wextra", "-Werror", "-pedantic", "-O2"]
 BECH32, BECH32M = 1, 2
 ENTRY = struct.Struct("@NNBBN")  # start, length, verdict, version, program length, laid out as C lays out a struct
 BESIDE = b"\xaa" * ENTRY.size    # what lies before a lent list of entries, and after it
 
 
-def fresh(archive):
+def fresh(made, sources):
     """It stands, and is newer than all that it is made of."""
+    return made.exists() and made.stat().st_mtime > max(source.stat().st_mtime for source in sources)
+
+
+def archives():
+    """The static libraries, proved if they are not proved yet."""
     sources = [ROOT / "crates.txt", *(ROOT / "crates").rglob("*.rt"), *(ROOT / "crates").rglob("*.antt")]
-    return archive.exists() and archive.stat().st_mtime > max(source.stat().st_mtime for source in sources)
-
-
-def build(crates):
-    """Proves the crates if they are not proved yet, and gives their libraries as one shared library."""
-    archives = [ROOT / f"target/staticlib/lib{crate}.a" for crate in crates]
-    for crate in crates:
-        if fresh(ROOT / f"target/staticlib/lib{crate}.a"):
+    for archive in ARCHIVES:
+        if fresh(archive, sources):
             continue
+        crate = archive.stem.removeprefix("lib")
         made = subprocess.run(["rt", "staticlib", crate], cwd=ROOT, capture_output=True, encoding="utf-8")
         if made.returncode:
             raise RuntimeError(f"rt staticlib {crate}: " + (made.stdout + made.stderr)[-2000:])
-        (ROOT / f"target/staticlib/lib{crate}.a").touch()  # rt leaves a library that has not changed as it is
-    shared = ROOT / f"target/staticlib/lib{'_'.join(crates)}.so"
-    subprocess.run(["gcc", "-shared", "-o", shared, "-Wl,--whole-archive", *archives, "-Wl,--no-whole-archive"], check=True)
+        archive.touch()  # rt leaves a library that has not changed as it is
+    return ARCHIVES
+
+
+def link(shim, shared):
+    """One shared library of a shim and the static libraries. It takes its place whole, since another test may have the one before loaded."""
+    made = shared.with_name(f"{shared.name}.{os.getpid()}")
+    subprocess.run([*GCC, "-shared", "-fPIC", "-I", SHIM.parent, "-o", made, shim, *archives()], check=True)
+    made.replace(shared)
     return ctypes.CDLL(str(shared))
 
 
@@ -40,9 +50,8 @@ def slice_of(content):
 class Ours:
     """Each method gives the number and what else the function gives; a buffer that is written is filled with 0xAA before, and given back whole."""
 
-    def __init__(self, *more):
-        """More crates than face can be named."""
-        self.library = build(["face", *more])
+    def __init__(self):
+        self.library = link(SHIM, ROOT / "target/staticlib/libpennywax.so")
         self.version, self.first, self.second = ctypes.c_uint8(), ctypes.c_size_t(), ctypes.c_size_t()
 
     def check_address(self, s):

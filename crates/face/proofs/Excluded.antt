@@ -14,8 +14,9 @@ use Rattle.answers.proofs.Computing.{computing}
 use Rattle.correction.proofs.Examples.{last-changed, fourth-changed}
 use Rattle.answers.proofs.Cases.{taproot, room-32, abcd-bech32, write-90, write-version-17}
 use Rattle.answers.specs.Numbers.{numberOfReading, numberOfWritten, numberOfAddress, versionOfAddress, numberOfLocated, placeOfLocated}
+use Rattle.face.specs.Overlap.{overlapNumber}
 use Rattle.face.specs.Codes.{codedRead, codedLocate, codedBytes, codedWrite, codedString}
-use Rattle.face.specs.Promises.{AddressChecked, AddressRead, StringRead, PlaceLocated, BytesRead, SymbolsWritten, BytesWritten, AddressWritten}
+use Rattle.face.specs.Promises.{AddressChecked, AddressRead, StringRead, PlaceLocated, BytesRead, SymbolsWritten, BytesWritten, AddressWritten, OverlapTold}
 
 abbrev address : List ℕ
 address = bytes "bc1pdp43hj65vxw49rts6kcw35u6r6tgzguyr03vvveeewjqpn05efzq7un9w0"
@@ -26,7 +27,7 @@ other-address = bytes "bc1p0xlxvlhemja6c4dqv22uapctqupfhlxm9h8z3k2e72q4k9hcz7vqz
 abbrev string : List ℕ
 string = bytes "abcd14g08d6qejxtdg4y5r3zarvary0c5xw7kxugcx9"
 
--- ---- pennywax_check_address
+-- ---- pennywax_apart_check_address
 
 pub check-not-refused : (k v n : ℕ) → AddressChecked address (suc k) v n → ⊥
 check-not-refused k v n p = let e : suc k ≡ 0 = p .number ∙ ap numberOfAddress taproot in omega arith
@@ -34,7 +35,7 @@ check-not-refused k v n p = let e : suc k ≡ 0 = p .number ∙ ap numberOfAddre
 pub check-gives-version : (r n : ℕ) → AddressChecked address r 0 n → ⊥
 check-gives-version r n p = let e : _≡_ {A = ℕ} 0 1 = p .version-given ∙ ap versionOfAddress taproot in omega arith
 
--- ---- pennywax_read_address
+-- ---- pennywax_apart_read_address
 
 pub read-address-not-refused : (k : ℕ) (after : List ℕ) (v n : ℕ) → AddressRead other-address (replicate 32 0) (suc k) after v n → ⊥
 read-address-not-refused k after v n p = let e : suc k ≡ 0 = p .number ∙ ap numberOfAddress room-32 in omega arith
@@ -46,7 +47,7 @@ program-first = refl
 pub read-address-writes : (r v n : ℕ) → AddressRead other-address (replicate 32 0) r (replicate 32 0) v n → ⊥
 read-address-writes r v n p = let e : _≡_ {A = ℕ} 0 0x79 = ap (λ (l : List ℕ). getD l 0 0) (p .buffer) ∙ program-first in omega arith
 
--- ---- pennywax_read
+-- ---- pennywax_apart_read
 
 pub read-not-refused : (k m n : ℕ) → StringRead 1 string (suc k) m n → ⊥
 unfolding codedRead
@@ -56,7 +57,7 @@ pub read-knows-codes : (m n : ℕ) → StringRead 3 string 0 m n → ⊥
 unfolding codedRead
 read-knows-codes m n p = let e : _≡_ {A = ℕ} 0 28 = p .number in omega arith
 
--- ---- pennywax_locate
+-- ---- pennywax_apart_locate
 
 pub locate-not-refused : (k p : ℕ) → PlaceLocated 1 (bytes "a12uel5q") (suc k) p → ⊥
 unfolding codedLocate
@@ -70,7 +71,7 @@ pub locate-knows-codes : (p : ℕ) → PlaceLocated 3 (bytes "a12uel5q") 0 p →
 unfolding codedLocate
 locate-knows-codes p x = let e : _≡_ {A = ℕ} 0 28 = x .number in omega arith
 
--- ---- pennywax_read_bytes
+-- ---- pennywax_apart_read_bytes
 
 bytes-of-string : readBytesVerdict bech32 string 20 ≡ written.Accepted 20
 unfolding computing
@@ -118,3 +119,26 @@ write-address-not-refused k after n p = let e : suc k ≡ 0 = p .number ∙ ap n
 
 pub write-address-version-17 : (after : List ℕ) (n : ℕ) → AddressWritten (bytes "bc") 17 (replicate 2 0) (replicate 90 0) 0 after n → ⊥
 write-address-version-17 after n p = let e : _≡_ {A = ℕ} 0 12 = p .number ∙ ap numberOfWritten write-version-17 in omega arith
+
+-- ---- pennywax_ranges_overlap: 20 bytes at 4096, and 200 that start with them, with their last byte, and right after them
+
+pub overlap-same-place : OverlapTold 4096 20 4096 200 0 → ⊥
+unfolding overlapNumber
+overlap-same-place p = let e : _≡_ {A = ℕ} 0 37 = p .number in omega arith
+
+pub overlap-last-byte : OverlapTold 4096 20 4115 200 0 → ⊥
+unfolding overlapNumber
+overlap-last-byte p = let e : _≡_ {A = ℕ} 0 37 = p .number in omega arith
+
+pub overlap-not-after : OverlapTold 4096 20 4116 200 37 → ⊥
+unfolding overlapNumber
+overlap-not-after p = let e : _≡_ {A = ℕ} 37 0 = p .number in omega arith
+
+-- the last address of all is one, and the next is none
+pub overlap-not-at-top : OverlapTold 4096 20 18446744073709551596 20 37 → ⊥
+unfolding overlapNumber
+overlap-not-at-top p = let e : _≡_ {A = ℕ} 37 0 = p .number in omega arith
+
+pub overlap-past-top : OverlapTold 4096 20 18446744073709551596 21 0 → ⊥
+unfolding overlapNumber
+overlap-past-top p = let e : _≡_ {A = ℕ} 0 37 = p .number in omega arith

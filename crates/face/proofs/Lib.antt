@@ -1,3 +1,4 @@
 pub mod Outcomes
 pub mod Excluded
 pub mod Codes
+pub mod Overlap

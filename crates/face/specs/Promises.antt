@@ -8,9 +8,10 @@ use Rattle.paper.specs.Bits.{toBytes, toSymbols}
 use Rattle.answers.specs.Reading.{payloadSymbols, programOf, addressVerdict, readAddressVerdict, programAfter, bufferAfter}
 use Rattle.answers.specs.Writing.{writtenAddress, writeAddressVerdict}
 use Rattle.answers.specs.Numbers.{numberOfReading, prefixOfReading, symbolsOfReading, numberOfWritten, countOfWritten, numberOfAddress, versionOfAddress, lengthOfAddress, numberOfLocated, placeOfLocated}
+use Rattle.face.specs.Overlap.{overlapNumber}
 use Rattle.face.specs.Codes.{codedRead, codedLocate, codedBytes, codedWrite, codedString}
 
--- face::pennywax_check_address
+-- face::pennywax_apart_check_address
 pub record AddressChecked (s : List ℕ) (r version n : ℕ) : Type 0 where
   pub number : r ≡ numberOfAddress (addressVerdict s)
   pub version-given : version ≡ versionOfAddress (addressVerdict s)
@@ -20,7 +21,7 @@ pub address-checked-once : (s : List ℕ) (r r′ v v′ n n′ : ℕ) → Addre
 address-checked-once s r r′ v v′ n n′ p q =
     (same (p .number) (q .number), same (p .version-given) (q .version-given), same (p .length-given) (q .length-given))
 
--- face::pennywax_read_address
+-- face::pennywax_apart_read_address
 pub record AddressRead (s before : List ℕ) (r : ℕ) (after : List ℕ) (version n : ℕ) : Type 0 where
   pub number : r ≡ numberOfAddress (readAddressVerdict s (length before))
   pub version-given : version ≡ versionOfAddress (readAddressVerdict s (length before))
@@ -36,7 +37,7 @@ address-read-once s before r r′ after after′ v v′ n n′ p q = (
   same (p .length-given) (q .length-given),
 )
 
--- face::pennywax_read
+-- face::pennywax_apart_read
 pub record StringRead (code : ℕ) (s : List ℕ) (r prefix symbols : ℕ) : Type 0 where
   pub number : r ≡ numberOfReading (codedRead code s)
   pub prefix-given : prefix ≡ prefixOfReading (codedRead code s)
@@ -46,7 +47,7 @@ pub string-read-once : (code : ℕ) (s : List ℕ) (r r′ m m′ n n′ : ℕ) 
 string-read-once code s r r′ m m′ n n′ p q =
     (same (p .number) (q .number), same (p .prefix-given) (q .prefix-given), same (p .symbols-given) (q .symbols-given))
 
--- face::pennywax_locate
+-- face::pennywax_apart_locate
 pub record PlaceLocated (code : ℕ) (s : List ℕ) (r place : ℕ) : Type 0 where
   pub number : r ≡ numberOfLocated (codedLocate code s)
   pub place-given : place ≡ placeOfLocated (codedLocate code s)
@@ -54,7 +55,7 @@ pub record PlaceLocated (code : ℕ) (s : List ℕ) (r place : ℕ) : Type 0 whe
 pub place-located-once : (code : ℕ) (s : List ℕ) (r r′ p p′ : ℕ) → PlaceLocated code s r p → PlaceLocated code s r′ p′ → (r ≡ r′) × (p ≡ p′)
 place-located-once code s r r′ p p′ x y = (same (x .number) (y .number), same (x .place-given) (y .place-given))
 
--- face::pennywax_read_bytes
+-- face::pennywax_apart_read_bytes
 pub record BytesRead (code : ℕ) (s before : List ℕ) (r : ℕ) (after : List ℕ) (written : ℕ) : Type 0 where
   pub number : r ≡ numberOfWritten (codedBytes code s (length before))
   pub written-given : written ≡ countOfWritten (codedBytes code s (length before))
@@ -65,7 +66,7 @@ pub bytes-read-once : (code : ℕ) (s before : List ℕ) (r r′ : ℕ) (after a
 bytes-read-once code s before r r′ after after′ n n′ p q =
     (same (p .number) (q .number), same (p .buffer) (q .buffer), same (p .written-given) (q .written-given))
 
--- face::pennywax_write_symbols
+-- face::pennywax_apart_write_symbols
 pub record SymbolsWritten (code : ℕ) (prefix symbols before : List ℕ) (r : ℕ) (after : List ℕ) (written : ℕ) : Type 0 where
   pub number : r ≡ numberOfWritten (codedWrite code prefix symbols (length before))
   pub written-given : written ≡ countOfWritten (codedWrite code prefix symbols (length before))
@@ -76,7 +77,7 @@ pub symbols-written-once : (code : ℕ) (prefix symbols before : List ℕ) (r r�
 symbols-written-once code prefix symbols before r r′ after after′ n n′ p q =
     (same (p .number) (q .number), same (p .buffer) (q .buffer), same (p .written-given) (q .written-given))
 
--- face::pennywax_write_bytes: the symbols of the bytes
+-- face::pennywax_apart_write_bytes: the symbols of the bytes
 abbrev pub BytesWritten : ℕ → List ℕ → List ℕ → List ℕ → ℕ → List ℕ → ℕ → Type 0
 BytesWritten code prefix bytes before r after n = SymbolsWritten code prefix (toSymbols bytes) before r after n
 
@@ -84,7 +85,7 @@ pub bytes-written-once : (code : ℕ) (prefix bytes before : List ℕ) (r r′ :
     → BytesWritten code prefix bytes before r after n → BytesWritten code prefix bytes before r′ after′ n′ → (r ≡ r′) × (after ≡ after′) × (n ≡ n′)
 bytes-written-once code prefix bytes before = symbols-written-once code prefix (toSymbols bytes) before
 
--- face::pennywax_write_address
+-- face::pennywax_apart_write_address
 pub record AddressWritten (prefix : List ℕ) (version : ℕ) (program before : List ℕ) (r : ℕ) (after : List ℕ) (written : ℕ) : Type 0 where
   pub number : r ≡ numberOfWritten (writeAddressVerdict prefix version program (length before))
   pub written-given : written ≡ countOfWritten (writeAddressVerdict prefix version program (length before))
@@ -94,3 +95,10 @@ pub address-written-once : (prefix : List ℕ) (version : ℕ) (program before :
     → AddressWritten prefix version program before r after n → AddressWritten prefix version program before r′ after′ n′ → (r ≡ r′) × (after ≡ after′) × (n ≡ n′)
 address-written-once prefix version program before r r′ after after′ n n′ p q =
     (same (p .number) (q .number), same (p .buffer) (q .buffer), same (p .written-given) (q .written-given))
+
+-- face::pennywax_ranges_overlap
+pub record OverlapTold (a m b n r : ℕ) : Type 0 where
+  pub number : r ≡ overlapNumber a m b n
+
+pub overlap-told-once : (a m b n r r′ : ℕ) → OverlapTold a m b n r → OverlapTold a m b n r′ → r ≡ r′
+overlap-told-once a m b n r r′ p q = same (p .number) (q .number)

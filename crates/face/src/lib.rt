@@ -1,16 +1,23 @@
 // Pennywax for callers that know C: numbers and byte slices alone. A slice is two arguments, a pointer and a length. A checksum is a
 // number here, 1 for Bech32 and 2 for Bech32m; any other is refused with 28 before anything else is looked at. Each function gives
 // document 01's number, 0 for accepted; a refusal sets the other results to 0.
+//
+// What is proved of a function with `apart` in its name is proved for results and buffers that lie apart from all else that is given, as the
+// language has it. Callers do not know that: c/pennywax.c, which they call, asks pennywax_ranges_overlap first.
 use answers::Address;
 use answers::CHECKSUM_UNKNOWN;
 use answers::Located;
+use answers::RANGES_OVERLAP;
 use answers::Reading;
 use answers::Written;
 use checksum::Checksum;
 ghost use mathlib.Core.Path.{_≡_};
+ghost use Prim.Native.Nat.{_+_};
+ghost use lib.Dec.{ltb};
 ghost use Rattle.paper.specs.Bits.{toSymbols};
 ghost use Rattle.face.specs.Codes.{codedRead, codedLocate, CodedBytes, CodedWritten};
-ghost use Rattle.face.specs.Promises.{AddressChecked, AddressRead, StringRead, PlaceLocated, BytesRead, SymbolsWritten, BytesWritten, AddressWritten};
+ghost use Rattle.face.specs.Overlap.{top};
+ghost use Rattle.face.specs.Promises.{AddressChecked, AddressRead, StringRead, PlaceLocated, BytesRead, SymbolsWritten, BytesWritten, AddressWritten, OverlapTold};
 
 const ACCEPTED: u8 = 0;
 
@@ -18,8 +25,10 @@ const BECH32: u8 = 1;
 
 const BECH32M: u8 = 2;
 
+const APART: u8 = 0;
+
 #[no_mangle]
-pub extern "C" fn pennywax_check_address(s: &[u8], version: &mut u8, length: &mut usize) -> u8
+pub extern "C" fn pennywax_apart_check_address(s: &[u8], version: &mut u8, length: &mut usize) -> u8
     ensures { λ r. ⌜ AddressChecked (now (s .entry)) r (now (version .exit)) (now (length .exit)) ⌝ }
 {
     match decode::check_address(s) {
@@ -37,7 +46,7 @@ pub extern "C" fn pennywax_check_address(s: &[u8], version: &mut u8, length: &mu
 }
 
 #[no_mangle]
-pub extern "C" fn pennywax_read_address(
+pub extern "C" fn pennywax_apart_read_address(
     s: &[u8],
     out: &mut [u8],
     version: &mut u8,
@@ -61,7 +70,12 @@ pub extern "C" fn pennywax_read_address(
 
 // Generic reading: how long the prefix is, and how many symbols the data part has with the checksum taken off.
 #[no_mangle]
-pub extern "C" fn pennywax_read(code: u8, s: &[u8], prefix: &mut usize, symbols: &mut usize) -> u8
+pub extern "C" fn pennywax_apart_read(
+    code: u8,
+    s: &[u8],
+    prefix: &mut usize,
+    symbols: &mut usize,
+) -> u8
     ensures { λ r. ⌜ StringRead code (now (s .entry)) r (now (prefix .exit)) (now (symbols .exit)) ⌝ }
 {
     match read_coded(code, s) {
@@ -80,7 +94,7 @@ pub extern "C" fn pennywax_read(code: u8, s: &[u8], prefix: &mut usize, symbols:
 
 // The place of one changed symbol, counted from the end; 0 is answered where one is named.
 #[no_mangle]
-pub extern "C" fn pennywax_locate(code: u8, s: &[u8], place: &mut usize) -> u8
+pub extern "C" fn pennywax_apart_locate(code: u8, s: &[u8], place: &mut usize) -> u8
     ensures { λ r. ⌜ PlaceLocated code (now (s .entry)) r (now (place .exit)) ⌝ }
 {
     match locate_coded(code, s) {
@@ -96,7 +110,12 @@ pub extern "C" fn pennywax_locate(code: u8, s: &[u8], place: &mut usize) -> u8
 }
 
 #[no_mangle]
-pub extern "C" fn pennywax_read_bytes(code: u8, s: &[u8], out: &mut [u8], written: &mut usize) -> u8
+pub extern "C" fn pennywax_apart_read_bytes(
+    code: u8,
+    s: &[u8],
+    out: &mut [u8],
+    written: &mut usize,
+) -> u8
     ensures { λ r. ⌜ BytesRead code (now (s .entry)) (now (out .entry)) r (now (out .exit)) (now (written .exit)) ⌝ }
 {
     match read_bytes_coded(code, s, out) {
@@ -112,7 +131,7 @@ pub extern "C" fn pennywax_read_bytes(code: u8, s: &[u8], out: &mut [u8], writte
 }
 
 #[no_mangle]
-pub extern "C" fn pennywax_write_symbols(
+pub extern "C" fn pennywax_apart_write_symbols(
     code: u8,
     prefix: &[u8],
     symbols: &[u8],
@@ -134,7 +153,7 @@ pub extern "C" fn pennywax_write_symbols(
 }
 
 #[no_mangle]
-pub extern "C" fn pennywax_write_bytes(
+pub extern "C" fn pennywax_apart_write_bytes(
     code: u8,
     prefix: &[u8],
     bytes: &[u8],
@@ -156,7 +175,7 @@ pub extern "C" fn pennywax_write_bytes(
 }
 
 #[no_mangle]
-pub extern "C" fn pennywax_write_address(
+pub extern "C" fn pennywax_apart_write_address(
     prefix: &[u8],
     version: u8,
     program: &[u8],
@@ -175,6 +194,45 @@ pub extern "C" fn pennywax_write_address(
             number
         }
     }
+}
+
+// Whether m bytes at address a and n bytes at address b overlap: 0 or 37. Addresses are compared by their differences, since a sum may be no usize.
+#[no_mangle]
+pub extern "C" fn pennywax_ranges_overlap(a: usize, m: usize, b: usize, n: usize) -> u8
+    ensures { λ r. ⌜ OverlapTold a m b n r ⌝ }
+{
+    if m == 0 {
+        return APART;
+    }
+    if n == 0 {
+        return APART;
+    }
+    if reaches_past_top(a, m) {
+        return RANGES_OVERLAP;
+    }
+    if reaches_past_top(b, n) {
+        return RANGES_OVERLAP;
+    }
+    if a < b {
+        if m <= b - a {
+            return APART;
+        }
+        return RANGES_OVERLAP;
+    }
+    if n <= a - b {
+        return APART;
+    }
+    RANGES_OVERLAP
+}
+
+// Its last byte would have no address.
+fn reaches_past_top(start: usize, count: usize) -> bool
+    ensures { λ r. ⌜ r ≡ ltb top (start + count) ⌝ }
+{
+    if count == 0 {
+        return false;
+    }
+    usize::MAX - start < count - 1
 }
 
 // ---- the code of a checksum taken apart

@@ -1,8 +1,8 @@
 -- What `locate_coded` ensures of its answer, taken apart (proofs/Outcomes.antt).
 use Rattle.face.proofs.Outcomes.{located-at, located-refused}
 use borrow.Author.Needs.{needs}
-use Rattle.face.proofs.pennywax_locate.Statement.{statement}
-use Rattle.face.proofs.pennywax_locate.Tie as tie
+use Rattle.face.proofs.pennywax_apart_locate.Statement.{statement}
+use Rattle.face.proofs.pennywax_apart_locate.Tie as tie
 
 locate-coded-requires : tie.Need-locate-coded-requires
 locate-coded-requires c κs = search needs
@@ -19,6 +19,6 @@ returns c = located-at _ _ _ (c .before .before .before .locate-coded .ensures) 
 returns-2 : tie.Need-returns-2
 returns-2 c = located-refused _ _ _ (c .before .before .before .locate-coded .ensures) _ (c .before .number .given .1)
 
-pub pennywax-locate-spec : {M : Type 1} → statement M
-pennywax-locate-spec =
+pub pennywax-apart-locate-spec : {M : Type 1} → statement M
+pennywax-apart-locate-spec =
     tie.close (tie.spec locate-coded-requires enum-known-p enum-known-number returns returns-2)

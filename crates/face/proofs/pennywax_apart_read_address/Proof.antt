@@ -1,8 +1,8 @@
 -- What `decode::read_address` ensures of its answer and of the buffer, taken apart (proofs/Outcomes.antt).
 use Rattle.face.proofs.Outcomes.{read-accepted, read-refused}
 use borrow.Author.Needs.{needs}
-use Rattle.face.proofs.pennywax_read_address.Statement.{statement}
-use Rattle.face.proofs.pennywax_read_address.Tie as tie
+use Rattle.face.proofs.pennywax_apart_read_address.Statement.{statement}
+use Rattle.face.proofs.pennywax_apart_read_address.Tie as tie
 
 read-address-requires : tie.Need-read-address-requires
 read-address-requires c κs = search needs
@@ -25,8 +25,8 @@ same-length-2 c = search needs
 returns-2 : tie.Need-returns-2
 returns-2 c = read-refused _ _ _ _ (c .before .before .before .before .before .read-address .ensures) _ (c .before .number .given .1)
 
-pub pennywax-read-address-spec : {M : Type 1} → statement M
-pennywax-read-address-spec =
+pub pennywax-apart-read-address-spec : {M : Type 1} → statement M
+pennywax-apart-read-address-spec =
     tie.close
     (tie.spec
     read-address-requires

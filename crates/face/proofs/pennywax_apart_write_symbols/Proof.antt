@@ -1,8 +1,8 @@
 -- What `write_symbols_coded` ensures of its answer and of the buffer, taken apart (proofs/Outcomes.antt).
 use Rattle.face.proofs.Outcomes.{written-accepted, written-refused}
 use borrow.Author.Needs.{needs}
-use Rattle.face.proofs.pennywax_write_symbols.Statement.{statement}
-use Rattle.face.proofs.pennywax_write_symbols.Tie as tie
+use Rattle.face.proofs.pennywax_apart_write_symbols.Statement.{statement}
+use Rattle.face.proofs.pennywax_apart_write_symbols.Tie as tie
 
 write-symbols-coded-requires : tie.Need-write-symbols-coded-requires
 write-symbols-coded-requires c κs = search needs
@@ -25,8 +25,8 @@ same-length-2 c = search needs
 returns-2 : tie.Need-returns-2
 returns-2 c = written-refused _ _ _ _ _ _ (c .before .before .before .before .before .write-symbols-coded .ensures) _ (c .before .number .given .1)
 
-pub pennywax-write-symbols-spec : {M : Type 1} → statement M
-pennywax-write-symbols-spec =
+pub pennywax-apart-write-symbols-spec : {M : Type 1} → statement M
+pennywax-apart-write-symbols-spec =
     tie.close
     (tie.spec
     write-symbols-coded-requires

@@ -1,8 +1,8 @@
 -- What `write_bytes_coded` ensures of its answer and of the buffer, taken apart (proofs/Outcomes.antt).
 use Rattle.face.proofs.Outcomes.{written-accepted, written-refused}
 use borrow.Author.Needs.{needs}
-use Rattle.face.proofs.pennywax_write_bytes.Statement.{statement}
-use Rattle.face.proofs.pennywax_write_bytes.Tie as tie
+use Rattle.face.proofs.pennywax_apart_write_bytes.Statement.{statement}
+use Rattle.face.proofs.pennywax_apart_write_bytes.Tie as tie
 
 write-bytes-coded-requires : tie.Need-write-bytes-coded-requires
 write-bytes-coded-requires c κs = search needs
@@ -25,8 +25,8 @@ same-length-2 c = search needs
 returns-2 : tie.Need-returns-2
 returns-2 c = written-refused _ _ _ _ _ _ (c .before .before .before .before .before .write-bytes-coded .ensures) _ (c .before .number .given .1)
 
-pub pennywax-write-bytes-spec : {M : Type 1} → statement M
-pennywax-write-bytes-spec =
+pub pennywax-apart-write-bytes-spec : {M : Type 1} → statement M
+pennywax-apart-write-bytes-spec =
     tie.close
     (tie.spec
     write-bytes-coded-requires

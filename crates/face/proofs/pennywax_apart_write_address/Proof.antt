@@ -1,8 +1,8 @@
 -- What `encode::write_address` ensures of its answer and of the buffer, taken apart (proofs/Outcomes.antt).
 use Rattle.face.proofs.Outcomes.{address-written-accepted, address-written-refused}
 use borrow.Author.Needs.{needs}
-use Rattle.face.proofs.pennywax_write_address.Statement.{statement}
-use Rattle.face.proofs.pennywax_write_address.Tie as tie
+use Rattle.face.proofs.pennywax_apart_write_address.Statement.{statement}
+use Rattle.face.proofs.pennywax_apart_write_address.Tie as tie
 
 write-address-requires : tie.Need-write-address-requires
 write-address-requires c κs = search needs
@@ -25,8 +25,8 @@ same-length-2 c = search needs
 returns-2 : tie.Need-returns-2
 returns-2 c = address-written-refused _ _ _ _ _ _ (c .before .before .before .before .before .write-address .ensures) _ (c .before .number .given .1)
 
-pub pennywax-write-address-spec : {M : Type 1} → statement M
-pennywax-write-address-spec =
+pub pennywax-apart-write-address-spec : {M : Type 1} → statement M
+pennywax-apart-write-address-spec =
     tie.close
     (tie.spec
     write-address-requires

@@ -1,8 +1,8 @@
 -- What `read_bytes_coded` ensures of its answer and of the buffer, taken apart (proofs/Outcomes.antt).
 use Rattle.face.proofs.Outcomes.{bytes-accepted, bytes-refused}
 use borrow.Author.Needs.{needs}
-use Rattle.face.proofs.pennywax_read_bytes.Statement.{statement}
-use Rattle.face.proofs.pennywax_read_bytes.Tie as tie
+use Rattle.face.proofs.pennywax_apart_read_bytes.Statement.{statement}
+use Rattle.face.proofs.pennywax_apart_read_bytes.Tie as tie
 
 read-bytes-coded-requires : tie.Need-read-bytes-coded-requires
 read-bytes-coded-requires c κs = search needs
@@ -25,8 +25,8 @@ same-length-2 c = search needs
 returns-2 : tie.Need-returns-2
 returns-2 c = bytes-refused _ _ _ _ _ (c .before .before .before .before .before .read-bytes-coded .ensures) _ (c .before .number .given .1)
 
-pub pennywax-read-bytes-spec : {M : Type 1} → statement M
-pennywax-read-bytes-spec =
+pub pennywax-apart-read-bytes-spec : {M : Type 1} → statement M
+pennywax-apart-read-bytes-spec =
     tie.close
     (tie.spec
     read-bytes-coded-requires
