@@ -69,11 +69,13 @@ module _ (symbols : List ℕ) where
   pub padding-13 : (paddingVerdict symbols ≡ verdict.Refused 13) ↔ LeavesMany (length symbols)
   unfolding paddingVerdict
   padding-13 =
-      let first = exactly verdict.Refused verdict-injective verdict.Accepted verdict-apart 13 0 (paddingLong symbols gives 13 ∷ paddingNotZero symbols gives 14 ∷ []) tt in
+      let first =
+      exactly verdict.Refused verdict-injective verdict.Accepted verdict-apart 13 0 (paddingLong symbols gives 13 ∷ paddingNotZero symbols gives 14 ∷ []) tt in
       (λ e. many-exactly .0 (first .0 e .1), λ many. first .1 (tt, many-exactly .1 many))
 
 -- of an address: 13 exactly for such a count of program symbols, where no rule before it applies
-pub address-13-exactly : (s : List ℕ) → (addressVerdict s ≡ address.Refused 13) ↔ (NoneApplies (take 12 (addressRules s)) × LeavesMany (length (programSymbols s)))
+pub address-13-exactly : (s : List ℕ)
+    → (addressVerdict s ≡ address.Refused 13) ↔ (NoneApplies (take 12 (addressRules s)) × LeavesMany (length (programSymbols s)))
 address-13-exactly s = (
   (λ e. let first = address-13 s .0 e in (first .0, many-exactly (programSymbols s) .0 (first .1))),
   (λ x. address-13 s .1 (x .0, many-exactly (programSymbols s) .1 (x .1))),

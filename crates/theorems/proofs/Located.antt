@@ -205,7 +205,7 @@ module _ {p : ℕ} {s t : List ℕ} (c : ChangedAt p s t) where
       by-case false = place-found constant (residue (prefixPart t) (map symbol (dataPart t))) p low (explained constant came)
 
   -- So does correction::locate.
-  pub locate-names-the-change : (checksum : Checksum) (m n : ℕ) (r : Reading) (r′ : Located) → WasRead checksum s r → r ≡ reading.Accepted m n → WasLocated checksum t r′
-      → r′ ≡ pick (mixedCase t) (located.Refused 2) (located.At p)
+  pub locate-names-the-change : (checksum : Checksum) (m n : ℕ) (r : Reading) (r′ : Located)
+      → WasRead checksum s r → r ≡ reading.Accepted m n → WasLocated checksum t r′ → r′ ≡ pick (mixedCase t) (located.Refused 2) (located.At p)
   locate-names-the-change checksum m n r r′ kept accepted kept′ =
       kept′ ∙ locates-the-change (constantFor checksum) m n (sym kept ∙ accepted)

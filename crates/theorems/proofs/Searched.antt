@@ -34,7 +34,8 @@ none-refuses-four window before budget steps after kept constant s t m n e withi
     found constant window 4 s t m n (clean-if-none-passes window (none-means-none window before budget after steps kept)) c within e
 
 -- an accepted string has a prefix, so that of at most 90 characters at most 88 are its data part
-part-of-90 : {w : ℕ} {s t : List ℕ} (constant m n : ℕ) → readVerdict constant s ≡ reading.Accepted m n → length s ≤ 90 → Changed w s t → length (dataPart s) ≤ 88
+part-of-90 : {w : ℕ} {s t : List ℕ} (constant m n : ℕ) → readVerdict constant s ≡ reading.Accepted m n → length s ≤ 90 → Changed w s t
+    → length (dataPart s) ≤ 88
 unfolding prefixEmpty
 part-of-90 {s = s} constant m n e short c =
     let some : length (prefixPart s) ≡ 0 → ⊥ = eqb-false (length (prefixPart s)) 0 (reading-rules constant s m n e .1 .1 .1 .0) in

@@ -118,14 +118,16 @@ module _ {w : ℕ} {s t : List ℕ} (c : Changed w s t) where
           rw (← prefix-before, ← part-before)
           (eqb-true (residue (prefixPart s) (map symbol (dataPart s))) constant (not-false (eqb (residue (prefixPart s) (map symbol (dataPart s))) constant) right))
 
-      folded-comes : residue (prefixPart t) (map symbol (dataPart t)) ≡ constant → polymod 1 (expand (map lower (c .prefix)) ++ map symbol (c .other)) ≡ constant
+      folded-comes : residue (prefixPart t) (map symbol (dataPart t)) ≡ constant
+          → polymod 1 (expand (map lower (c .prefix)) ++ map symbol (c .other)) ≡ constant
       folded-comes comes =
           ap (λ (p : List ℕ). polymod 1 (expand p ++ map symbol (c .other))) (sym (c .same-prefix)) ∙ (rw (prefix-after, part-after) at comes)
 
       other-residue : residue (prefixPart t) (map symbol (dataPart t)) ≡ constant → ⊥
       other-residue comes =
           let same : map symbol (c .part) ≡ map symbol (c .other) =
-          detects-after 1 (expand (map lower (c .prefix))) (map symbol (c .part)) (map symbol (c .other)) (near n within) clean (came ∙ sym (folded-comes comes)) in
+          detects-after 1 (expand (map lower (c .prefix))) (map symbol (c .part)) (map symbol (c .other)) (near n within) clean
+          (came ∙ sym (folded-comes comes)) in
           let none : dist (map symbol (c .part)) (map symbol (c .other)) ≡ 0 =
           ap (dist (map symbol (c .part))) (sym same) ∙ dist-self (map symbol (c .part)) in
           let some : 1 ≤ dist (map symbol (c .part)) (map symbol (c .other)) = c .some in
