@@ -31,8 +31,11 @@ use Rattle.decode.specs.Promises.{SymbolsRead, BytesRead, AddressRead}
 use Rattle.encode.specs.Promises.{SymbolsWritten, BytesWritten, AddressWritten}
 use Rattle.encode.proofs.Accepted.{SymbolsFit, AddressFits, symbols-accepted, address-accepted}
 use Rattle.search.proofs.Windows.{pattern-passes}
+use Rattle.correction.proofs.Examples.{last-changed, accepted-none, not-in-the-field}
 use Rattle.theorems.specs.Changes.{Changed, ChangedAt, SameChecksum}
 use Rattle.theorems.specs.Holds.{Holds}
+use Rattle.theorems.specs.Named.{Named, Unplaced}
+use Rattle.theorems.proofs.Located.{locates-exactly, locates-21}
 use Rattle.theorems.proofs.Contents.{read-held}
 
 -- ---- changed strings: a copy in the other case, and one in both
@@ -131,6 +134,13 @@ one-changed =
 pub one-explained : Explains (residue (bytes "a") (map symbol (bytes "2uel5q"))) bech32 0
 unfolding computing changeAt
 one-explained = record { change = 31; proper = (lit< tt, lit< tt); gives = refl }
+
+pub one-named : Named bech32 (bytes "a12uel5q") 0
+one-named = locates-exactly bech32 (bytes "a12uel5q") 0 .0 last-changed
+
+-- none is named for a string that is accepted, and for one whose residue no change of one symbol explains
+pub none-named : Unplaced bech32 (bytes "a12uel5l") × Unplaced bech32 (bytes "a10f58vz")
+none-named = (locates-21 bech32 (bytes "a12uel5l") .0 accepted-none, locates-21 bech32 (bytes "a10f58vz") .0 not-in-the-field)
 
 -- ---- symbols that are near, and a pattern that passes
 
