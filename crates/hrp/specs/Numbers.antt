@@ -1,5 +1,5 @@
--- Document 01, "Answers": a network and an order as numbers. Nothing is refused, so the answer's number is 0 in each case; a value tells the cases apart, and is 0
--- for a prefix of no known network and for prefixes that are equal.
+-- Document 01, "Answers": a network and an order as numbers. Nothing is refused, so the answer's number is 0 in each case; a value tells the
+-- cases apart, and is 0 for a prefix of no known network and for prefixes that are equal.
 use Prim.Native.Nat.{ℕ}
 use Rattle.hrp.specs.declared.Network.{Network}
 use Rattle.hrp.specs.declared.Network.the-variants.{Mainnet, Testnet, Regtest, Unknown}

@@ -1,5 +1,5 @@
--- Document 01, "Answers": a walk's step as numbers. A walk refuses nothing, so the number is 0 in each case; 1 or 0 says whether a value is given, which may be 0
--- itself. At the end the value and the walk's place are 0.
+-- Document 01, "Answers": a walk's step as numbers. A walk refuses nothing, so the number is 0 in each case; 1 or 0 says whether a value is
+-- given, which may be 0 itself. At the end the value and the walk's place are 0.
 use Prim.Native.Nat.{ℕ}
 use Rattle.iter.specs.declared.SymbolStep.{SymbolStep}
 use Rattle.iter.specs.declared.SymbolStep.the-variants as symbol
