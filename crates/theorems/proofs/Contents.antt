@@ -22,9 +22,6 @@ use Rattle.theorems.specs.Holds.{Holds}
 use Rattle.theorems.proofs.Detection.{reading-rules}
 
 module _ {constant : ℕ} {s prefix part : List ℕ} (h : Holds constant s prefix part) where
-  pub held-prefix : prefixPart s ≡ prefix
-  held-prefix = valid-prefix constant 1023 s prefix (part ++ h .check) (h .valid)
-
   pub held-payload : payload s ≡ part
   unfolding payload
   held-payload =
@@ -59,9 +56,6 @@ read-held constant s m n e =
     }
 
 -- ---- the parts that are handed back
-
-pub held-part : {constant : ℕ} {s prefix part : List ℕ} → Holds constant s prefix part → (x : List ℕ) → partOf (readVerdict constant s) x ≡ x
-held-part h x = ap (λ (r : Reading). partOf r x) (held-read h)
 
 pub no-part : (constant : ℕ) (s : List ℕ) → ((prefix part : List ℕ) → Holds constant s prefix part → ⊥) → (x : List ℕ) → partOf (readVerdict constant s) x ≡ []
 no-part constant s none x = by-reading (readVerdict constant s) refl

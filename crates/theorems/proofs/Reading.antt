@@ -24,9 +24,10 @@ use Rattle.answers.proofs.Cases.{taproot, valid-1}
 use Rattle.checksum.specs.Parameters.{constantFor}
 use Rattle.checksum.specs.declared.Checksum.{Checksum}
 use Rattle.decode.specs.Symbols.{readSymbolsVerdict}
+use Rattle.decode.specs.Places.{Place}
 use Rattle.decode.specs.Promises.{WasRead, DataPartGiven, PrefixPartGiven, SymbolsRead, BytesRead, AddressChecked, AddressRead}
 use Rattle.theorems.specs.Holds.{Holds, HoldsSymbols, HoldsBytes}
-use Rattle.theorems.proofs.Contents.{held-prefix, held-payload, held-part, no-part, held-into, into-exactly}
+use Rattle.theorems.proofs.Contents.{held-payload, no-part, held-into, into-exactly}
 
 -- decode::check_address accepts exactly the papers' addresses, with their version and the length of their program
 pub checks-exactly : (s : List ℕ) (r : Address) → AddressChecked s r → (v n : ℕ) → (r ≡ address.Accepted v n) ↔ AddressAs s v n
@@ -66,27 +67,14 @@ program-refused s before r after kept k e = kept .buffer ∙ ap (λ (x : Address
 
 -- ---- the parts that are handed back
 
--- what decode::data_part and decode::prefix_part are defined to give: of a valid string the part that it holds, of any other nothing
-pub payload-held : {constant : ℕ} {s prefix part : List ℕ} → Holds constant s prefix part → partOf (readVerdict constant s) (payload s) ≡ part
-payload-held {s = s} h = held-part h (payload s) ∙ held-payload h
+-- decode::data_part and decode::prefix_part give nothing of a string that is not valid; what they give of a valid one, and where it lies, is decode's Handed
+pub gives-no-data : (checksum : Checksum) (lent : Place) (s : List ℕ) (at : Place) (r : List ℕ) → DataPartGiven checksum lent s at r
+    → ((prefix part : List ℕ) → Holds (constantFor checksum) s prefix part → ⊥) → r ≡ []
+gives-no-data checksum lent s at r kept none = kept .content ∙ no-part (constantFor checksum) s none (payload s)
 
-pub prefix-held : {constant : ℕ} {s prefix part : List ℕ} → Holds constant s prefix part → partOf (readVerdict constant s) (prefixPart s) ≡ prefix
-prefix-held {s = s} h = held-part h (prefixPart s) ∙ held-prefix h
-
-module _ (checksum : Checksum) (s r : List ℕ) where
-  -- so decode::data_part gives the data part of a valid string, the checksum taken off, and of any other string nothing
-  pub gives-the-data : DataPartGiven checksum s r → (prefix part : List ℕ) → Holds (constantFor checksum) s prefix part → r ≡ part
-  gives-the-data kept prefix part h = kept ∙ payload-held h
-
-  pub gives-no-data : DataPartGiven checksum s r → ((prefix part : List ℕ) → Holds (constantFor checksum) s prefix part → ⊥) → r ≡ []
-  gives-no-data kept none = kept ∙ no-part (constantFor checksum) s none (payload s)
-
-  -- and decode::prefix_part the prefix, as it stands in the string
-  pub gives-the-prefix : PrefixPartGiven checksum s r → (prefix part : List ℕ) → Holds (constantFor checksum) s prefix part → r ≡ prefix
-  gives-the-prefix kept prefix part h = kept ∙ prefix-held h
-
-  pub gives-no-prefix : PrefixPartGiven checksum s r → ((prefix part : List ℕ) → Holds (constantFor checksum) s prefix part → ⊥) → r ≡ []
-  gives-no-prefix kept none = kept ∙ no-part (constantFor checksum) s none (prefixPart s)
+pub gives-no-prefix : (checksum : Checksum) (lent : Place) (s : List ℕ) (at : Place) (r : List ℕ) → PrefixPartGiven checksum lent s at r
+    → ((prefix part : List ℕ) → Holds (constantFor checksum) s prefix part → ⊥) → r ≡ []
+gives-no-prefix checksum lent s at r kept none = kept .content ∙ no-part (constantFor checksum) s none (prefixPart s)
 
 -- ---- symbols and bytes
 
