@@ -27,7 +27,8 @@ class Repository:
         self.folders = sorted(path.name for path in folder.glob("*") if path.is_dir())
         self.functions = [f for crate in self.folders for f in sources.functions(root, crate) if f.public]
         self.declared = {crate: sources.declarations(root, crate) for crate in self.folders}
-        self.types = {name for crate in self.folders for name in sources.types(root, crate)}
+        structs = {name for crate in self.folders for name in sources.types(root, crate)}
+        self.types = statements.data_types([d for declared in self.declared.values() for d in declared], structs)
         self.promises = {crate: {} for crate in self.folders}  # of each promise, how many arguments it takes
         for function in self.functions:
             said = statements.ensured(function)

@@ -38,8 +38,9 @@ def names(text):
 
 
 def tokens(text):
-    """antt's words and signs. An escaped name is one word, without its « »; a bare one with a `_` inside is another name, and keeps it as `_x`."""
-    found = re.findall(rf"«[^»]*»|{NAME}|[(){{}}.;,@]", text)
+    """antt's words and signs. `a.b` is one word, `a .b` three. An escaped name is one word, without its « »; a bare `x_y` is another name than `«x_y»`,
+    and stands as `_x_y`."""
+    found = re.findall(rf"«[^»]*»|{NAME}(?:\.{NAME})*|[(){{}}.;,@]", text)
     return [word[1:-1] if word[0] == "«" else "_" + word if re.fullmatch(r"\w+_\w+", word) else word for word in found]
 
 

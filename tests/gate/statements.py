@@ -11,6 +11,27 @@ from .sources import NAME, atoms, bare, parts, tokens
 # What may be asked for all values of: types that hold data. A type of another kind could be one that nothing has.
 DATA = {"ℕ", "List", "Bool", "×", "(", ")"}
 
+
+def data_types(declared, structs):
+    """These, the structs and enums of src/, and the names and records of antt that are made of such wherever they are declared."""
+    named = {}
+    for declaration in declared:
+        named.setdefault(declaration.name, []).append(declaration)
+    found, more = set(), DATA | structs - {*named}
+    while more:
+        found |= more
+        more = {name for name, all_of_it in named.items() if name not in found and all(made_of(d, found) for d in all_of_it)}
+    return found
+
+
+def made_of(declaration, known):
+    """`NAME : Type 0` with one clause, or a record without parameters, all of whose types are known."""
+    is_record = "record" in declaration.marks
+    if declaration.statement.strip() != ("" if is_record else "Type 0"):
+        return False
+    made = clauses(declaration)
+    return len(made) == 1 and bool(made[0][1]) and all({*words} <= known for words in made[0][1])
+
 # Words that mean the same in every file. None of our files may give them another meaning.
 FIXED = {"⊥", "¬_", "_≡_", "_×_", "⌜_⌝", "now"}
 EQUAL = "mathlib.Core.Path._≡_"
@@ -176,7 +197,7 @@ def theorem_problems(declaration, crate, promise, types):
     other = {word for word in FIXED & {*declaration.brought} if declaration.brought[word] != EQUAL}
     found += [f"stands in a file that gives {word} another meaning" for word in sorted(other)]
     for name, kind in theorem(tokens(declaration.statement)).variables.items():
-        if not {*kind} <= DATA | types:
+        if not {*kind} <= types:
             found.append(f"asks for `{name} : {plain(' '.join(kind))}`, which is no data")
     return found
 
