@@ -27,8 +27,6 @@ class Repository:
         self.folders = sorted(path.name for path in folder.glob("*") if path.is_dir())
         self.functions = [f for crate in self.folders for f in sources.functions(root, crate) if f.public]
         self.declared = {crate: sources.declarations(root, crate) for crate in self.folders}
-        structs = {name for crate in self.folders for name in sources.types(root, crate)}
-        self.types = statements.data_types([d for declared in self.declared.values() for d in declared], structs)
         self.promises = {crate: {} for crate in self.folders}  # of each promise, how many arguments it takes
         for function in self.functions:
             said = statements.ensured(function)
@@ -112,8 +110,9 @@ def promises(root, report):
     for function in repository.functions:
         report.check(contract_problems(function) + row_problems(repository, function))
     for crate, declared in repository.declared.items():
-        other = [(f"crates/{crate}", f"{d.module} gives {d.name} another meaning") for d in declared if d.name in statements.FIXED]
-        report.check(other)
+        wrong = [f"{d.module} gives {d.name} another meaning" for d in declared if d.name in statements.FIXED]
+        wrong += [f"enum {name} has no value" for name in sources.empty_enums(root, crate)]
+        report.check([(f"crates/{crate}", what) for what in wrong])
     named = {}  # of each edit, the functions whose rows name it
     for name, (_, cells) in repository.rows.items():
         for label in re.findall(r"edit:([\w-]+)", cells[2]):
@@ -158,7 +157,7 @@ def uniqueness_problems(repository, name, crate, said, once):
     theorem = the_theorem(repository, crate, once)
     if not theorem:
         return [f"there is no public theorem {once} in specs/ or proofs/ of {crate}"]
-    found = statements.theorem_problems(theorem, crate, said.promise, repository.types) + statements.once_problems(theorem, said)
+    found = statements.theorem_problems(theorem, crate, said.promise, repository.declared) + statements.once_problems(theorem, said)
     return [f"{once} {what}" for what in found]
 
 
@@ -171,7 +170,7 @@ def wrong_answer_problems(repository, name, crate, promise, wrong_answers):
     for kind, word in (answer.split(":", 1) for answer in sorted(answers)):
         theorem = the_theorem(repository, crate, word) if kind == "theorem" else None
         if theorem:
-            problems = statements.theorem_problems(theorem, crate, promise, repository.types)
+            problems = statements.theorem_problems(theorem, crate, promise, repository.declared)
             found += [f"{word} {what}" for what in problems + statements.wrong_problems(theorem, promise, repository.promises[crate])]
         elif kind == "theorem":
             found.append(f"there is no public theorem {word} in specs/ or proofs/ of {crate}")

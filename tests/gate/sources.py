@@ -186,10 +186,10 @@ def closing(text, start):
     return len(text)
 
 
-def types(root, crate):
-    """The structs and enums that a crate declares."""
-    return {name for path in (root / "crates" / crate / "src").rglob("*.rt")
-            for name in re.findall(r"\b(?:struct|enum)\s+(\w+)", read_without(RATTLE_SILENT, path))}
+def empty_enums(root, crate):
+    """The enums of a crate that have no value."""
+    return [name for path in sorted((root / "crates" / crate / "src").rglob("*.rt"))
+            for name in re.findall(r"\benum\s+(\w+)[^{;]*\{\s*\}", read_without(RATTLE_SILENT, path))]
 
 
 # ---- antt

@@ -8,30 +8,6 @@ from dataclasses import dataclass
 
 from .sources import NAME, atoms, bare, parts, tokens
 
-# What may be asked for all values of: types that hold data. A type of another kind could be one that nothing has.
-DATA = {"ℕ", "List", "Bool", "×", "(", ")"}
-
-
-def data_types(declared, structs):
-    """These, the structs and enums of src/, and the names and records of antt that are made of such wherever they are declared."""
-    named = {}
-    for declaration in declared:
-        named.setdefault(declaration.name, []).append(declaration)
-    found, more = set(), DATA | structs - {*named}
-    while more:
-        found |= more
-        more = {name for name, all_of_it in named.items() if name not in found and all(made_of(d, found) for d in all_of_it)}
-    return found
-
-
-def made_of(declaration, known):
-    """`NAME : Type 0` with one clause, or a record without parameters, all of whose types are known."""
-    is_record = "record" in declaration.marks
-    if declaration.statement.strip() != ("" if is_record else "Type 0"):
-        return False
-    made = clauses(declaration)
-    return len(made) == 1 and bool(made[0][1]) and all({*words} <= known for words in made[0][1])
-
 # Words that mean the same in every file. None of our files may give them another meaning.
 FIXED = {"⊥", "¬_", "_≡_", "_×_", "⌜_⌝", "now"}
 EQUAL = "mathlib.Core.Path._≡_"
@@ -146,6 +122,34 @@ def fixed_by(declared, fact, name, seen):
     return False
 
 
+# ---- data
+
+# What may be asked for all values of: types that hold data. A type of another kind could be one that nothing has.
+KIT = {"Prim.Native.Nat.ℕ", "mathlib.Core.List.List", "mathlib.Core.Bool.Bool"}
+OURS = re.compile(rf"Rattle·(\w+?)(?:·specs|·proofs)?\.(?:specs|proofs)\.(.+)\.({NAME})")
+
+
+def is_data(declared, crate, near, word, seen=()):
+    """A word of a type means data in the file where a declaration stands: the kit's numbers and lists, a struct or enum of src/, which antt has below
+    `declared`, or a name or record that is made of such. `declared` has the declarations of every crate."""
+    path = near.brought.get(word, f"Rattle.{crate}.specs.{near.module}.{word}")
+    ours = OURS.fullmatch(path)
+    if word in ("×", "(", ")") or path in KIT:
+        return True
+    if not ours or path in seen:
+        return False
+    crate, module, name = ours.groups()
+    found = [d for d in declared.get(crate, []) if (d.module, d.name) == (module, name)]
+    return all(made_of(declared, crate, d, (*seen, path)) for d in found) and bool(found or module.startswith("declared."))
+
+
+def made_of(declared, crate, declaration, seen):
+    """`NAME : Type 0` with one clause, or a record without parameters, of data alone."""
+    whole = declaration.statement.strip() == ("" if "record" in declaration.marks else "Type 0")
+    made = [words for _, types in clauses(declaration) for words in types]
+    return whole and bool(made) and all(is_data(declared, crate, declaration, word, seen) for words in made for word in words)
+
+
 # ---- theorems
 
 @dataclass
@@ -184,7 +188,7 @@ def binders(words):
     return bound, rest
 
 
-def theorem_problems(declaration, crate, promise, types):
+def theorem_problems(declaration, crate, promise, declared):
     """What any theorem of a row must be: a public fact at the top of its file, about this crate's promise and for all data."""
     found = []
     if not declaration.top:
@@ -197,7 +201,7 @@ def theorem_problems(declaration, crate, promise, types):
     other = {word for word in FIXED & {*declaration.brought} if declaration.brought[word] != EQUAL}
     found += [f"stands in a file that gives {word} another meaning" for word in sorted(other)]
     for name, kind in theorem(tokens(declaration.statement)).variables.items():
-        if not {*kind} <= types:
+        if not all(is_data(declared, crate, declaration, word) for word in kind):
             found.append(f"asks for `{name} : {plain(' '.join(kind))}`, which is no data")
     return found
 
