@@ -49,12 +49,16 @@ impl LfsrIter<Fe1024> {
 
     pub fn derivative_length(cs: &[Fe1024]) -> usize { of(cs).formal_derivative().as_inner().len() }
 
-    pub fn product_length(a: &[Fe1024], b: &[Fe1024]) -> usize { of(a).mul_mod_x_d(&of(b), 99).as_inner().len() }
+    pub fn value_is_zero(cs: &[Fe1024]) -> bool { of(cs).evaluate(&Fe1024::ONE) == Fe1024::ZERO }
 
-    pub fn product_last(a: &[Fe1024], b: &[Fe1024]) -> Fe1024 {
-        let product = of(a).mul_mod_x_d(&of(b), 99);
+    pub fn convolution_length(a: &[Fe1024], s: &[Fe1024]) -> usize { of(a).convolution(&of(s)).as_inner().len() }
+
+    pub fn product_length(a: &[Fe1024], b: &[Fe1024], d: usize) -> usize { of(a).mul_mod_x_d(&of(b), d).as_inner().len() }
+
+    pub fn product_ends_in_zero(a: &[Fe1024], b: &[Fe1024], d: usize) -> bool {
+        let product = of(a).mul_mod_x_d(&of(b), d);
         let inner = product.as_inner();
-        inner[inner.len() - 1].clone()
+        inner[inner.len() - 1] == Fe1024::ZERO
     }
 
     /// The first three exponents, 9999 where there is none.
