@@ -12,37 +12,26 @@ use polynomial::Root;
 ghost use Prim.Native.Nat.{_<_, _≤_};
 
 fn main() {
-    multiply_all();
-    invert_all();
+    fields();
     polynomials();
-    residues();
 }
 
-fn multiply_all() {
+fn fields() {
     let mut k = 0u32;
-    while k < 512 {
-        multiply_line(k * 37 % FIELD_ORDER, (k * 101 + 77) % FIELD_ORDER);
+    while k < 1023 {
+        field_line(k * 61 % FIELD_ORDER, k + 1);
         k += 1;
     }
 }
 
-fn multiply_line(x: u32, y: u32) {
-    text(b"multiply");
+fn field_line(x: u32, y: u32) {
+    letter(b'm');
     number(x as u64);
     number(y as u64);
     number(gf32_ext::multiply(x, y) as u64);
-    text(b"\n");
-}
-
-fn invert_all() {
-    let mut y = 1u32;
-    while y < FIELD_ORDER {
-        text(b"inverse");
-        number(y as u64);
-        quotient(gf32_ext::inverse(y));
-        text(b"\n");
-        y += 1;
-    }
+    letter(b'i');
+    quotient(gf32_ext::inverse(y));
+    end_line();
 }
 
 fn polynomials() {
@@ -56,45 +45,29 @@ fn polynomials() {
 fn polynomial_line(t: u32)
     requires { ⌜ t < 140 ⌝ }
 {
+    let residue = t * 26843545 % 1073741824;
     let p = polynomial_of(t, t % 7 + 1);
     let q = polynomial_of(t + 300, t / 7 % 7 + 1);
-    text(b"polynomial");
-    number(t as u64);
+    letter(b'p');
     list(p);
     list(q);
-    text(b" degree");
+    letter(b'd');
     exponent(polynomial::degree(p));
-    text(b" leading");
+    letter(b'l');
     element(polynomial::leading_term(p));
-    text(b" value");
-    element(polynomial::evaluate(p, place(t)));
-    text(b" derivative");
+    letter(b'v');
+    element(polynomial::evaluate(p, (t * 53 + 9) % FIELD_ORDER));
+    letter(b'f');
     changed(polynomial::formal_derivative(p));
-    text(b" product");
+    letter(b'm');
     changed(polynomial::multiply_mod_x_d(p, q, (t % 11) as usize));
-    text(b" convolution");
+    letter(b'c');
     changed(polynomial::convolution(p, q));
-    text(b" roots");
-    roots_of(p);
-    text(b"\n");
-}
-
-fn place(t: u32) -> u32
-    requires { ⌜ t < 140 ⌝ }
-{
-    (t * 53 + 9) % FIELD_ORDER
-}
-
-// The zero polynomial's roots are all powers: none is listed.
-fn roots_of(p: FieldVec) {
-    let leading = polynomial::leading_term(p);
-    let Element::Value(c) = leading else {
-        return;
-    };
-    if c == 0 {
-        return;
-    }
+    letter(b's');
+    list(polynomial::from_residue(residue));
+    letter(b'r');
     roots(p);
+    end_line();
 }
 
 fn roots(p: FieldVec) {
@@ -112,18 +85,6 @@ fn roots(p: FieldVec) {
         }
         number(e as u64);
         k = e + 1;
-    }
-}
-
-fn residues() {
-    let mut t = 0u32;
-    while t < 40 {
-        let residue = t * 26843545 % 1073741824;
-        text(b"residue");
-        number(residue as u64);
-        symbols(polynomial::from_residue(residue));
-        text(b"\n");
-        t += 1;
     }
 }
 
@@ -185,17 +146,14 @@ fn exponent(answer: Exponent) {
 }
 
 fn refused(n: u8) {
-    text(b" refused");
+    letter(b'x');
     number(n as u64);
 }
 
+// How many elements, and the elements.
 fn list(elements: FieldVec) {
-    number(elements.len as u64);
-    symbols(elements);
-}
-
-fn symbols(elements: FieldVec) {
     let n = elements.len;
+    number(n as u64);
     let mut i = 0;
     while i < n {
         element(elements.get(i));
@@ -204,10 +162,14 @@ fn symbols(elements: FieldVec) {
 }
 
 fn number(n: u64) {
-    text(b" ");
+    io::write_all(STDOUT_FILENO, b" ");
     io::print_decimal(STDOUT_FILENO, n);
 }
 
-fn text(bytes: &[u8]) {
-    io::write_all(STDOUT_FILENO, bytes);
+fn letter(c: u8) {
+    io::write_all(STDOUT_FILENO, &[b' ', c]);
+}
+
+fn end_line() {
+    io::write_all(STDOUT_FILENO, b"\n");
 }

@@ -39,46 +39,38 @@ fn trimmed(mut list: Vec<Fe1024>) -> Vec<Fe1024> {
 }
 
 fn main() {
-    for k in 0..512 {
-        let (x, y) = (k * 37 % 1024, (k * 101 + 77) % 1024);
-        println!("multiply {} {} {}", x, y, number(element(x) * element(y)));
-    }
-    for y in 1..1024 {
-        println!("inverse {} {}", y, number(element(y).multiplicative_inverse()));
+    for k in 0..1023 {
+        let (x, y) = (k * 61 % 1024, k + 1);
+        println!(" m {} {} {} i {}", x, y, number(element(x) * element(y)), number(element(y).multiplicative_inverse()));
     }
     for t in 0..140 {
         let (p, q) = (polynomial(t, t % 7 + 1), polynomial(t + 300, t / 7 % 7 + 1));
         let x = element((t * 53 + 9) % 1024);
-        print!("polynomial {}", t);
+        print!(" p");
         show(&p);
         show(&q);
-        print!(" degree {}", LfsrIter::degree(&p));
-        print!(" leading {}", number(LfsrIter::leading_term(&p)));
-        print!(" value {}", number(LfsrIter::evaluate(&p, x)));
-        print!(" derivative");
+        print!(" d {}", LfsrIter::degree(&p));
+        print!(" l {}", number(LfsrIter::leading_term(&p)));
+        print!(" v {}", number(LfsrIter::evaluate(&p, x)));
+        print!(" f");
         show(&trimmed(LfsrIter::formal_derivative(&p)));
         let product = trimmed(LfsrIter::mul_mod_x_d(&p, &q, (t % 11) as usize));
-        print!(" product");
+        print!(" m");
         if product.len() > 7 {
-            print!(" refused 25");
+            print!(" x 25");
         } else {
             show(&product);
         }
-        print!(" convolution");
+        print!(" c");
         show(&LfsrIter::convolution(&p, &q));
-        print!(" roots");
-        if LfsrIter::leading_term(&p) != Fe1024::ZERO {
-            for e in LfsrIter::roots(&p, element(193)) {
-                print!(" {}", e);
-            }
-        }
-        println!();
-    }
-    for t in 0..40u32 {
-        let residue = t * 26843545 % 1073741824;
-        print!("residue {}", residue);
-        for v in LfsrIter::from_residue(residue) {
+        let residue = LfsrIter::from_residue(t * 26843545 % 1073741824);
+        print!(" s {}", residue.len());
+        for v in residue {
             print!(" {}", v.to_u8());
+        }
+        print!(" r");
+        for e in LfsrIter::roots(&p, element(193)) {
+            print!(" {}", e);
         }
         println!();
     }

@@ -1,14 +1,17 @@
--- `symbols` is safe and ends: the place goes up to the count.
+-- `list` is safe and ends: the place goes up to the count.
 use Prim.Native.Nat.{_-_, _≤_}
 use borrow.Author.Needs.{needs}
-use Rattle.field_replay.proofs.symbols.Statement.{statement}
-use Rattle.field_replay.proofs.symbols.Tie as tie
+use Rattle.field_replay.proofs.list.Statement.{statement}
+use Rattle.field_replay.proofs.list.Tie as tie
 
 abbrev Inv-loop : tie.InvT-loop
 Inv-loop elements n i₀ i = i ≤ n
 
 abbrev μ-loop : tie.MeasureT-loop
 μ-loop elements n i₀ i = n - i
+
+number-requires : tie.Need-number-requires Inv-loop μ-loop
+number-requires c κs = search needs
 
 loop-holds : tie.Need-loop-holds Inv-loop μ-loop
 loop-holds c = search needs
@@ -31,12 +34,13 @@ loop-again c = search needs
 returns : tie.Need-returns Inv-loop μ-loop
 returns c = search needs
 
-pub symbols-spec : {M : Type 1} → statement M
-symbols-spec =
+pub list-spec : {M : Type 1} → statement M
+list-spec =
     tie.close
     (tie.spec
     Inv-loop
     μ-loop
+    number-requires
     loop-holds
     get-requires
     element-requires
