@@ -1,8 +1,10 @@
 // The command-line checker: one address a line from standard input, its number in decimal a line to standard output. What is answered is the
 // crate lines, which is proved; here are only the calls that read and write.
+use answers::Written;
 use libc::STDERR_FILENO;
 use libc::STDIN_FILENO;
 use libc::STDOUT_FILENO;
+use lines::Fed;
 use lines::Line;
 ghost use Prim.Native.Nat.{_≤_};
 ghost use lib.ListN.{length};
@@ -57,14 +59,25 @@ fn answer(piece: &[u8], line: &mut [u8], kept: usize, out: &mut [u8]) -> Stand
     let mut at = 0;
     while at < piece.len() {
         let fed = lines::feed(&piece[at..], line, Line { len }, out);
-        if !write(out, fed.written) {
+        let Fed::Took {
+            taken,
+            written,
+            len: next,
+        } = fed
+        else {
             return Stand {
-                len: fed.len,
+                len,
+                written: false,
+            };
+        };
+        if !write(out, written) {
+            return Stand {
+                len: next,
                 written: false,
             };
         }
-        len = fed.len;
-        at += fed.taken;
+        len = next;
+        at += taken;
     }
     Stand { len, written: true }
 }
@@ -73,8 +86,12 @@ fn answer(piece: &[u8], line: &mut [u8], kept: usize, out: &mut [u8]) -> Stand
 fn finish(line: &[u8], len: usize, out: &mut [u8])
     requires { ⌜ (91 ≤ length (now line)) × (3 ≤ length (now out)) × (len ≤ 91) ⌝ }
 {
-    let fed = lines::finish(line, Line { len }, out);
-    if !write(out, fed.written) {
+    let last = lines::finish(line, Line { len }, out);
+    let Written::Accepted(n) = last else {
+        say(b"checker: the last answer is missing\n");
+        return;
+    };
+    if !write(out, n) {
         say(b"checker: writing failed; the last answer is missing\n");
     }
 }

@@ -1,7 +1,7 @@
 -- Document 01, "In", the command-line checker, for input that comes in pieces: the bytes are taken one by one, and lent buffers hold the line
 -- that is not ended yet and the answers. Of a line the first 91 bytes are kept, since those are over 90 already, answer 10, whatever
 -- comes after them.
-use mathlib.Core.Bool.{Bool}
+use mathlib.Core.Bool.{Bool, false, not, _&&_, _||_}
 use mathlib.Core.List.{List, [], _∷_}
 use Prim.Native.Nat.{ℕ, _+_, _-_}
 use lib.Dec.{eqb, ltb}
@@ -38,9 +38,13 @@ countWith len = pick (ltb len 91) (len + 1) len
 unfoldable pub kept : ℕ → Standing → Standing
 kept byte st = standing (st .taken) (lineWith byte (st .line) (st .len)) (countWith (st .len)) (st .out) (st .written)
 
--- an answer has up to 3 bytes, and there is no room for that many
+-- how many bytes the answer of a number has
+abbrev pub answerLength : ℕ → ℕ
+answerLength n = pick (ltb n 10) 2 3
+
+-- document 01, answer 17: the room that is left is less than the present line's answer, which would be written
 unfoldable pub full : Standing → Bool
-full st = ltb (length (st .out) - st .written) 3
+full st = ltb (length (st .out) - st .written) (length (answerTo (take (st .len) (st .line))))
 
 unfoldable pub passed : Standing → Standing
 passed st = standing (st .taken + 1) (st .line) (st .len) (st .out) (st .written)
@@ -60,12 +64,25 @@ keptCount len = pick (ltb 91 len) 91 len
 unfoldable pub start : List ℕ → ℕ → List ℕ → Standing
 start line len out = standing 0 line (keptCount len) out 0
 
--- a piece of the input; a line buffer under 91 bytes is not used, and nothing is taken
+-- the first byte is a line end that there is no room for
+unfoldable pub stuck : List ℕ → Standing → Bool
+stuck [] st = false
+stuck (c ∷ s) st = eqb c 10 && full st
+
+-- a piece of the input; a line buffer under 91 bytes is not used
 unfoldable pub fed : List ℕ → List ℕ → ℕ → List ℕ → Standing
 fed input line len out = pick (ltb (length line) 91) (start line len out) (fedFrom input (start line len out))
 
--- the end of the input: a line that is not empty is answered, where there is room for it
+unfoldable pub fedRefused : List ℕ → List ℕ → ℕ → List ℕ → Bool
+fedRefused input line len out = ltb (length line) 91 || stuck input (start line len out)
+
+-- the end of the input: a line that is not empty is answered
 unfoldable pub finished : List ℕ → ℕ → List ℕ → Standing
 finished line len out =
     let st : Standing = start line len out in
     pick (ltb (length line) 91) st (pick (eqb (st .len) 0) st (pick (full st) st (answered st)))
+
+unfoldable pub finishRefused : List ℕ → ℕ → List ℕ → Bool
+finishRefused line len out =
+    let st : Standing = start line len out in
+    ltb (length line) 91 || (not (eqb (st .len) 0) && full st)

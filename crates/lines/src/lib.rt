@@ -2,21 +2,21 @@
 // between two pieces the caller keeps a line buffer of at least 91 bytes and the count that the last call gave back. Memory stays the same
 // however long a line is.
 use answers::Address;
+use answers::ROOM_SMALL;
+use answers::Written;
 ghost use mathlib.Core.Path.{_≡_};
 ghost use Prim.Native.Nat.{_+_, _≤_};
 ghost use lib.ListN.{length, take};
 ghost use lib.Seq.{sets};
 ghost use mathlib.Core.List.{[], _∷_, _++_};
+ghost use Rattle.answers.specs.Reading.{addressVerdict};
 ghost use Rattle.answers.specs.Numbers.{numberOfAddress};
-ghost use Rattle.answers.specs.Lines.{decimal, answerTo};
-ghost use Rattle.lines.specs.Feeding.{keptCount, countWith, lineWith, standing};
-ghost use Rattle.lines.specs.Promises.{WasFed, WasFinished, Took};
+ghost use Rattle.answers.specs.Lines.{decimal};
+ghost use Rattle.lines.specs.Feeding.{keptCount, countWith, lineWith, standing, answerLength};
+ghost use Rattle.lines.specs.Promises.{WasFed, WasFinished, WentOn};
 
 // A line's bytes are kept up to this count: so many are too long for an address already.
 pub const KEPT: usize = 91;
-
-// An answer is at most two digits and a line end.
-pub const ANSWER_LENGTH: usize = 3;
 
 const LINE_END: u8 = b'\n';
 
@@ -25,61 +25,69 @@ pub struct Line {
     pub len: usize,
 }
 
-// How many bytes of the input were taken, how many of the output are written, and the count for the next call.
-pub struct Fed {
-    pub taken: usize,
-    pub written: usize,
-    pub len: usize,
+// What comes of a piece: how many of its bytes were taken, how many bytes of the output are written, and the count for the next call; or the
+// number 17, and nothing was taken or written.
+pub enum Fed {
+    Took {
+        taken: usize,
+        written: usize,
+        len: usize,
+    },
+    Refused(u8),
 }
 
-// Takes a piece of the input and writes the answers of the lines that end in it. It stops early only at a line end that the output has no
-// room for: then the caller empties the output and comes back with the rest.
+// How far the bytes of a piece were taken.
+struct Progress {
+    taken: usize,
+    written: usize,
+    len: usize,
+}
+
+// Takes a piece of the input and writes the answers of the lines that end in it. It stops early only at a line end whose answer the output
+// has no room for: then the caller empties the output and comes back with the rest. It refuses with 17 if the line buffer is under 91 bytes,
+// or if the very first byte is such a line end; so a call that is not refused takes something of a piece that is not empty.
 pub fn feed(input: &[u8], line: &mut [u8], state: Line, out: &mut [u8]) -> Fed
     ensures { λ r. ⌜ WasFed (now (input .entry)) (now (line .entry)) (state .len) (now (out .entry)) r (now (line .exit)) (now (out .exit)) ⌝ }
 {
     let len = kept_count(state.len);
     if line.len() < KEPT {
-        return Fed {
+        return Fed::Refused(ROOM_SMALL);
+    }
+    if input.len() == 0 {
+        return Fed::Took {
             taken: 0,
             written: 0,
             len,
         };
     }
-    take_bytes(input, line, len, out)
+    let progress = take_bytes(input, line, len, out);
+    if progress.taken == 0 {
+        return Fed::Refused(ROOM_SMALL);
+    }
+    Fed::Took {
+        taken: progress.taken,
+        written: progress.written,
+        len: progress.len,
+    }
 }
 
-// The end of the input: a last line with no line end is answered. Nothing is left to do exactly if the count given back is 0.
-pub fn finish(line: &[u8], state: Line, out: &mut [u8]) -> Fed
+// The end of the input: a last line with no line end is answered, and how many bytes that is comes back; 0 if there is no such line. It refuses
+// with 17 if the line buffer is under 91 bytes, or the output has no room for the answer: then the caller empties it and comes back.
+pub fn finish(line: &[u8], state: Line, out: &mut [u8]) -> Written
     ensures { λ r. ⌜ WasFinished (now (line .entry)) (state .len) (now (out .entry)) r (now (out .exit)) ⌝ }
 {
     let len = kept_count(state.len);
     if line.len() < KEPT {
-        return Fed {
-            taken: 0,
-            written: 0,
-            len,
-        };
+        return Written::Refused(ROOM_SMALL);
     }
     if len == 0 {
-        return Fed {
-            taken: 0,
-            written: 0,
-            len,
-        };
+        return Written::Accepted(0);
     }
-    if out.len() < ANSWER_LENGTH {
-        return Fed {
-            taken: 0,
-            written: 0,
-            len,
-        };
+    let number = number_of_line(line, len);
+    if out.len() < answer_length(number) {
+        return Written::Refused(ROOM_SMALL);
     }
-    let written = answer(line, len, out, 0);
-    Fed {
-        taken: 0,
-        written,
-        len: 0,
-    }
+    Written::Accepted(put(number, out, 0))
 }
 
 fn kept_count(len: usize) -> usize
@@ -90,9 +98,9 @@ fn kept_count(len: usize) -> usize
 }
 
 // Byte by byte: a line end is answered, any other byte is kept.
-fn take_bytes(input: &[u8], line: &mut [u8], kept: usize, out: &mut [u8]) -> Fed
+fn take_bytes(input: &[u8], line: &mut [u8], kept: usize, out: &mut [u8]) -> Progress
     requires { ⌜ (91 ≤ length (now line)) × (kept ≤ 91) ⌝ }
-    ensures { λ r. ⌜ Took (now (input .entry)) (standing 0 (now (line .entry)) kept (now (out .entry)) 0) r (now (line .exit)) (now (out .exit)) ⌝ }
+    ensures { λ r. ⌜ WentOn (now (input .entry)) (standing 0 (now (line .entry)) kept (now (out .entry)) 0) r (now (line .exit)) (now (out .exit)) ⌝ }
 {
     let mut len = kept;
     let mut written = 0;
@@ -104,18 +112,19 @@ fn take_bytes(input: &[u8], line: &mut [u8], kept: usize, out: &mut [u8]) -> Fed
             i += 1;
             continue;
         }
-        if out.len() - written < ANSWER_LENGTH {
-            return Fed {
+        let number = number_of_line(line, len);
+        if out.len() - written < answer_length(number) {
+            return Progress {
                 taken: i,
                 written,
                 len,
             };
         }
-        written = answer(line, len, out, written);
+        written = put(number, out, written);
         len = 0;
         i += 1;
     }
-    Fed {
+    Progress {
         taken: i,
         written,
         len,
@@ -133,13 +142,12 @@ fn keep(byte: u8, line: &mut [u8], len: usize) -> usize
     len
 }
 
-// The answer to the kept bytes, at this place of the output; what comes back is the place after it.
-fn answer(line: &[u8], len: usize, out: &mut [u8], at: usize) -> usize
-    requires { ⌜ (len ≤ length (now line)) × (at + 3 ≤ length (now out)) ⌝ }
-    ensures { λ r. ⌜ (r ≡ at + length (answerTo (take len (now (line .entry))))) × (now (out .exit) ≡ sets (now (out .entry)) at (answerTo (take len (now (line .entry))))) × (r ≤ at + 3) ⌝ }
+// The number of the address that the kept bytes are.
+fn number_of_line(line: &[u8], len: usize) -> u8
+    requires { ⌜ len ≤ length (now line) ⌝ }
+    ensures { λ r. ⌜ r ≡ numberOfAddress (addressVerdict (take len (now (line .entry)))) ⌝ }
 {
-    let number = number_of(decode::check_address(&line[..len]));
-    put(number, out, at)
+    number_of(decode::check_address(&line[..len]))
 }
 
 fn number_of(address: Address) -> u8
@@ -151,10 +159,20 @@ fn number_of(address: Address) -> u8
     }
 }
 
-// A number in decimal, and a line end.
+// One digit or two, and a line end.
+fn answer_length(number: u8) -> usize
+    ensures { λ r. ⌜ r ≡ answerLength number ⌝ }
+{
+    if number < 10 {
+        return 2;
+    }
+    3
+}
+
+// A number in decimal, and a line end, at this place of the output; what comes back is the place after it.
 fn put(number: u8, out: &mut [u8], at: usize) -> usize
-    requires { ⌜ at + 3 ≤ length (now out) ⌝ }
-    ensures { λ r. ⌜ (r ≡ at + length (decimal number ++ 10 ∷ [])) × (now (out .exit) ≡ sets (now (out .entry)) at (decimal number ++ 10 ∷ [])) × (r ≤ at + 3) ⌝ }
+    requires { ⌜ at + answerLength number ≤ length (now out) ⌝ }
+    ensures { λ r. ⌜ (r ≡ at + length (decimal number ++ 10 ∷ [])) × (now (out .exit) ≡ sets (now (out .entry)) at (decimal number ++ 10 ∷ [])) ⌝ }
 {
     if number < 10 {
         out[at] = b'0' + number;
