@@ -39,7 +39,7 @@ pub bytes-written-once : (checksum : Checksum) (prefix bytes before : List ℕ) 
     → BytesWritten checksum prefix bytes before r after → BytesWritten checksum prefix bytes before s after′ → (r ≡ s) × (after ≡ after′)
 bytes-written-once checksum prefix bytes before r s after after′ p q = wrote-once _ _ before r s after after′ p q
 
--- encode::write_address; encode::write_address_v0 and encode::write_address_v1 at those versions
+-- encode::write_address
 abbrev pub AddressWritten : List ℕ → ℕ → List ℕ → List ℕ → Written → List ℕ → Type 0
 AddressWritten prefix version program before r after =
     Wrote (writeAddressVerdict prefix version program (length before)) (writtenAddress prefix version program) before r after
@@ -47,6 +47,22 @@ AddressWritten prefix version program before r after =
 pub address-written-once : (prefix : List ℕ) (version : ℕ) (program before : List ℕ) (r s : Written) (after after′ : List ℕ)
     → AddressWritten prefix version program before r after → AddressWritten prefix version program before s after′ → (r ≡ s) × (after ≡ after′)
 address-written-once prefix version program before r s after after′ p q = wrote-once _ _ before r s after after′ p q
+
+-- encode::write_address_v0: an address of version 0
+abbrev pub Version0Written : List ℕ → List ℕ → List ℕ → Written → List ℕ → Type 0
+Version0Written prefix program before r after = AddressWritten prefix 0 program before r after
+
+pub version-0-written-once : (prefix program before : List ℕ) (r s : Written) (after after′ : List ℕ)
+    → Version0Written prefix program before r after → Version0Written prefix program before s after′ → (r ≡ s) × (after ≡ after′)
+version-0-written-once prefix program before r s after after′ p q = wrote-once _ _ before r s after after′ p q
+
+-- encode::write_address_v1: an address of version 1
+abbrev pub Version1Written : List ℕ → List ℕ → List ℕ → Written → List ℕ → Type 0
+Version1Written prefix program before r after = AddressWritten prefix 1 program before r after
+
+pub version-1-written-once : (prefix program before : List ℕ) (r s : Written) (after after′ : List ℕ)
+    → Version1Written prefix program before r after → Version1Written prefix program before s after′ → (r ≡ s) × (after ≡ after′)
+version-1-written-once prefix program before r s after after′ p q = wrote-once _ _ before r s after after′ p q
 
 -- encode::encoded_length: what write_bytes answers in a room of 1023 bytes, which holds every string that may be written. The checksums are
 -- equally long, so either says it.

@@ -14,7 +14,7 @@ use rules::symbols_verdict;
 use segwit::MAX_STRING_LENGTH;
 use segwit::VERSION_0;
 use segwit::VERSION_1;
-ghost use Rattle.encode.specs.Promises.{SymbolsWritten, BytesWritten, AddressWritten, LengthGiven, AddressLengthGiven};
+ghost use Rattle.encode.specs.Promises.{SymbolsWritten, BytesWritten, AddressWritten, Version0Written, Version1Written, LengthGiven, AddressLengthGiven};
 
 // Generic writing of symbols.
 pub fn write_symbols(checksum: Checksum, prefix: &[u8], symbols: &[u8], out: &mut [u8]) -> Written
@@ -53,13 +53,13 @@ pub fn write_address(prefix: &[u8], version: u8, program: &[u8], out: &mut [u8])
 }
 
 pub fn write_address_v0(prefix: &[u8], program: &[u8], out: &mut [u8]) -> Written
-    ensures { λ r. ⌜ AddressWritten (now (prefix .entry)) 0 (now (program .entry)) (now (out .entry)) r (now (out .exit)) ⌝ }
+    ensures { λ r. ⌜ Version0Written (now (prefix .entry)) (now (program .entry)) (now (out .entry)) r (now (out .exit)) ⌝ }
 {
     write_address(prefix, VERSION_0, program, out)
 }
 
 pub fn write_address_v1(prefix: &[u8], program: &[u8], out: &mut [u8]) -> Written
-    ensures { λ r. ⌜ AddressWritten (now (prefix .entry)) 1 (now (program .entry)) (now (out .entry)) r (now (out .exit)) ⌝ }
+    ensures { λ r. ⌜ Version1Written (now (prefix .entry)) (now (program .entry)) (now (out .entry)) r (now (out .exit)) ⌝ }
 {
     write_address(prefix, VERSION_1, program, out)
 }
