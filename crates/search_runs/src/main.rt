@@ -1,5 +1,6 @@
-// Searches, a line each: window, budget, words of scratch, what was found with the steps that it took, whether the scratch is kept or all
-// zero afterwards, and the pattern if one is shown, as place:symbol. What must come is in the file stdout.
+// Searches, a line each: window, budget, words of scratch, whether all of them are as before and whether all are zero afterwards, as 1 or 0, and
+// what was found: n for none and s for shown with the steps that it took, r with the refusal and the steps. A pattern that is shown follows, how many
+// changes it has and four places with their symbols. What must come is in the file stdout.
 use libc::STDOUT_FILENO;
 use search::Change;
 use search::Found;
@@ -12,60 +13,59 @@ const AMPLE: u64 = 1000000000;
 const MARK: u32 = 7;
 
 fn main() {
-    let mut words = [0u32; 65536];
-    run(88, &mut words, AMPLE);
-    run(89, &mut words, AMPLE);
-    run(90, &mut words, AMPLE);
-    run(128, &mut words, AMPLE);
-    run(1, &mut words, 0);
-    run(10, &mut words, 81849);
-    run(10, &mut words, 81848);
-    run(88, &mut words, 0);
-    run(88, &mut words, 101977252);
-    run(90, &mut words, 32015840);
-    run(0, &mut words, AMPLE);
-    run(129, &mut words, AMPLE);
+    run(88, AMPLE);
+    run(89, AMPLE);
+    run(90, AMPLE);
+    run(128, AMPLE);
+    run(1, 0);
+    run(10, 81849);
+    run(10, 81848);
+    run(88, 0);
+    run(88, 101977252);
+    run(90, 32015840);
+    run(0, AMPLE);
+    run(129, AMPLE);
     run_small(88);
     run_small(129);
+}
+
+fn run(window: usize, budget: u64) {
+    let mut words = [0u32; 65536];
+    run_in(window, &mut words, budget);
 }
 
 // One word too few.
 fn run_small(window: usize) {
     let mut words = [0u32; 65535];
-    run(window, &mut words, AMPLE);
+    run_in(window, &mut words, AMPLE);
 }
 
-fn run(window: usize, scratch: &mut [u32], budget: u64) {
+fn run_in(window: usize, scratch: &mut [u32], budget: u64) {
     fill(scratch);
     let found = search::search(window, scratch, budget);
-    decimal(window as u64);
+    number(window as u64);
     number(budget);
     number(scratch.len() as u64);
+    number(all_are(scratch, MARK) as u64);
+    number(all_are(scratch, 0) as u64);
+    letter(b' ');
     show(found);
-    if all_are(scratch, MARK) {
-        text(b" kept");
-    }
-    if all_are(scratch, 0) {
-        text(b" zero");
-    }
-    if let Found::Shown(pattern, _) = found {
-        show_pattern(pattern);
-    }
-    text(b"\n");
+    letter(b'\n');
 }
 
 fn show(found: Found) {
     match found {
-        Found::Shown(_, steps) => {
-            text(b" shown");
+        Found::Shown(pattern, steps) => {
+            letter(b's');
             number(steps);
+            show_pattern(pattern);
         }
         Found::None(steps) => {
-            text(b" none");
+            letter(b'n');
             number(steps);
         }
         Found::Refused(refusal, steps) => {
-            text(b" refused");
+            letter(b'r');
             number(refusal as u64);
             number(steps);
         }
@@ -82,21 +82,16 @@ fn show_pattern(pattern: Pattern) {
 
 fn show_change(change: Change) {
     number(change.place as u64);
-    text(b":");
-    decimal(change.symbol as u64);
+    number(change.symbol as u64);
 }
 
 fn number(n: u64) {
-    text(b" ");
-    decimal(n);
-}
-
-fn decimal(n: u64) {
+    letter(b' ');
     io::print_decimal(STDOUT_FILENO, n);
 }
 
-fn text(bytes: &[u8]) {
-    io::write_all(STDOUT_FILENO, bytes);
+fn letter(c: u8) {
+    io::write_all(STDOUT_FILENO, &[c]);
 }
 
 fn fill(scratch: &mut [u32]) {
