@@ -16,8 +16,6 @@ ghost use Prim.Native.Nat.{_<_};
 // What lent room, 64 bytes, holds before.
 const MARK: u8 = 170;
 
-const LINE_END: u8 = 10;
-
 fn main() {
     let mut buffer = io::large_buffer();
     let n = io::read_full(STDIN_FILENO, &mut buffer);
@@ -44,16 +42,13 @@ fn replay_first(s: &[u8]) -> usize {
     if s.len() < 6 {
         return 0;
     }
-    let a = length(s[2], s[3]);
-    let b = length(s[4], s[5]);
-    if s.len() - 6 < a {
+    let middle = 6 + length(s[2], s[3]);
+    let end = middle + length(s[4], s[5]);
+    if s.len() < end {
         return 0;
     }
-    if s.len() - 6 - a < b {
-        return 0;
-    }
-    run(s[0], s[1], &s[6..6 + a], &s[6 + a..6 + a + b]);
-    6 + a + b
+    run(s[0], s[1], &s[6..middle], &s[middle..end]);
+    end
 }
 
 fn length(low: u8, high: u8) -> usize
@@ -68,20 +63,18 @@ fn run(kind: u8, number: u8, a: &[u8], b: &[u8]) {
     hex(a);
     hex(b);
     match kind {
-        b'r' => read(a),
+        b'r' => {
+            read_under(Checksum::Bech32, a);
+            read_under(Checksum::Bech32m, a);
+        }
         b'w' => write(number, a, b),
         b'p' => compare(a, b),
         _ => regroup(a, b),
     }
-    byte(LINE_END);
+    byte(b'\n');
 }
 
 // ---- decode
-
-fn read(s: &[u8]) {
-    read_under(Checksum::Bech32, s);
-    read_under(Checksum::Bech32m, s);
-}
 
 fn read_under(checksum: Checksum, s: &[u8]) {
     hex(decode::prefix_part(checksum, s));
@@ -96,20 +89,12 @@ fn read_under(checksum: Checksum, s: &[u8]) {
 fn write(version: u8, prefix: &[u8], bytes: &[u8]) {
     written(encode::encoded_length(prefix, bytes));
     written(encode::encoded_address_length(prefix, version, bytes));
-    write_v0(prefix, bytes);
-    write_v1(prefix, bytes);
-}
-
-fn write_v0(prefix: &[u8], program: &[u8]) {
     let mut out = [MARK; 64];
-    written(encode::write_address_v0(prefix, program, &mut out));
+    written(encode::write_address_v0(prefix, bytes, &mut out));
     hex(&out);
-}
-
-fn write_v1(prefix: &[u8], program: &[u8]) {
-    let mut out = [MARK; 64];
-    written(encode::write_address_v1(prefix, program, &mut out));
-    hex(&out);
+    let mut next = [MARK; 64];
+    written(encode::write_address_v1(prefix, bytes, &mut next));
+    hex(&next);
 }
 
 // ---- hrp
@@ -182,14 +167,15 @@ fn walk_bytes(bytes: &[u8]) {
 // The number, 0 for accepted, and the length.
 fn written(answer: Written) {
     match answer {
-        Written::Accepted(n) => pair(0, n),
-        Written::Refused(number) => pair(number, 0),
+        Written::Accepted(n) => {
+            decimal(0);
+            decimal(n as u64);
+        }
+        Written::Refused(number) => {
+            decimal(number as u64);
+            decimal(0);
+        }
     }
-}
-
-fn pair(number: u8, n: usize) {
-    decimal(number as u64);
-    decimal(n as u64);
 }
 
 fn verdict(answer: Verdict) {
