@@ -45,7 +45,7 @@ def ensured(function):
 
 
 def head(argument):
-    return next(word for word in argument.split() if word not in ("(", "now"))
+    return next((word for word in argument.split() if word not in ("(", "now")), "")
 
 
 def ensures_problems(function):
