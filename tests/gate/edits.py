@@ -15,8 +15,8 @@ from .sources import NAME, read
 
 # What the prover says when the code no longer has the shape that the proof was written for. Such an edit shows nothing of the promise.
 SHAPE = re.compile(r"error: .*(?:has no field|has no `?Need-|can be named from here|not in scope|"
-                   r"expected type `tie\.\S+`, but this has type `tie\.|"
-                   r"where one has `\S*\.Lts\.(?:Start|Else\d*|Then\d*|T\d+|After-[\w-]+)`)")
+                   r"expected type `tie\.[^`]+`, but this has type `tie\.|"
+                   r"where one has `\S*\.Lts\.(?:Start|Else\d*|Then\d*|After-[\w-]+)`)")
 
 # Needs that only keep the machine safe: what an operation, an index, a part or a cast asks. `add-requires` is what a call of `add` asks.
 SAFETY = re.compile(r"(?!.*-requires(?:-\d+)?$)(?:add|sub|mul|div|rem|shl|shr|cast|int-to-float|float-to-\w+|slice|shared-slice|array|element|"
@@ -65,6 +65,9 @@ class Refusal:
     name: str     # the declaration, or the function as crate::module::name
     need: str     # the need that it answers, if it does
 
+    def __str__(self):
+        return f"fn {self.name.partition('::')[2]} {self.need}" if self.file == "fn" else f"{self.file} {self.name}"
+
 
 def first_refusal(text, place):
     """What the prover's first error is about. `place` is where the edited crate lies."""
@@ -96,11 +99,9 @@ def refusal_problems(edit, text, place):
     refusal = first_refusal(text, place)
     if not refusal:
         return ["the prover's first error was not found"]
-    came = f"{refusal.file} {refusal.name if refusal.file != 'fn' else refusal.name.partition('::')[2]}"
-    came += f" {refusal.need}" if refusal.file == "fn" else ""
     found = []
     if not any(same_place(stated.split(), refusal) for stated in edit.refused_at):
-        found.append(f"it is first refused at `{came}`, and says `{', '.join(edit.refused_at) or 'nothing'}`")
+        found.append(f"it is first refused at `{refusal}`, and says `{', '.join(edit.refused_at) or 'nothing'}`")
     shape = SHAPE.search(text)
     if shape:
         found.append(f"it is refused for its shape: {shape[0].removeprefix('error: ')}")

@@ -163,8 +163,8 @@ def over(root, crate):
     began = time.monotonic()
     status, text, loaded, checked = prover.check_over(root, crate, root / "crates" / crate)
     took = time.monotonic() - began
-    first = re.search(r"^(\S+): error: .*", text, re.M)
-    problem = [] if prover.proved(status, text) else [(f"crates/{crate}", f"not proved (exit {status}): {(first[0] if first else '')[:300]}")]
+    first = edits.first_refusal(text, root / "crates" / crate)
+    problem = [] if prover.proved(status, text) else [(f"crates/{crate}", f"not proved (exit {status}), first at {first}")]
     return problem, f"{'not ' if problem else ''}proved, modules taken over {loaded}, checked {checked} ({took:.0f} s)", took
 
 
