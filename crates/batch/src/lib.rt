@@ -1,17 +1,16 @@
 // Many addresses in one buffer, each judged for itself: document 01's module 11, the batch. A list is lent, or comes by value as
 // an array with a count.
 use answers::Address;
-use answers::BATCH_LONG;
-use answers::ENTRY_OUTSIDE;
 use answers::Entry;
 use answers::Verdict;
+use numbers::ACCEPTED;
+use numbers::BATCH_LONG;
+use numbers::ENTRY_OUTSIDE;
 ghost use mathlib.Core.Path.{_≡_};
 ghost use Rattle.answers.specs.Batch.{entryVerdict, judgedAs};
 ghost use Rattle.batch.specs.Promises.{EntryJudged, BatchJudged, AllJudged};
 
 pub const MAX_ENTRIES: usize = 32;
-
-const ACCEPTED: u8 = 0;
 
 // The first `count` of the entries are the list.
 pub struct Batch {

@@ -1,8 +1,6 @@
 // The place of one changed symbol: document 01's module 10. BIP-173 has a place suggested and never what belongs there, so only the place
 // comes out. No list of changes and no shift register: one change is all that is looked for.
-use answers::CHECKSUM_WRONG;
 use answers::Located;
-use answers::NO_SINGLE_PLACE;
 use answers::Reading;
 use checksum::Checksum;
 use checksum::Engine;
@@ -13,6 +11,8 @@ use fieldvec::FieldVec;
 use fieldvec::narrowed;
 use gf32_ext::Quotient;
 use gf32_ext::ROOT_GENERATOR;
+use numbers::CHECKSUM_WRONG;
+use numbers::NO_SINGLE_PLACE;
 use polynomial::Root;
 ghost use mathlib.Core.Path.{_≡_};
 ghost use mathlib.Core.List.{[], _∷_, map};

@@ -1,6 +1,6 @@
 // Characters as symbols, into a lent buffer.
-use answers::ROOM_SMALL;
 use answers::Written;
+use numbers::ROOM_SMALL;
 ghost use mathlib.Core.Path.{_≡_};
 ghost use mathlib.Core.List.{_++_, map};
 ghost use Prim.Native.Nat.{_+_, _*_, _/_, _%_, _≤_};

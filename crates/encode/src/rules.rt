@@ -1,12 +1,12 @@
 // The orders of refusal for writers. Nothing is written here: the buffer comes in by its length alone.
-use answers::ADDRESS_LONG;
-use answers::ROOM_SMALL;
-use answers::STRING_LONG;
-use answers::SYMBOL_LARGE;
 use answers::Verdict;
 use answers::Written;
 use checksum::CHECKSUM_LENGTH;
 use checksum::CODE_LENGTH;
+use numbers::ADDRESS_LONG;
+use numbers::ROOM_SMALL;
+use numbers::STRING_LONG;
+use numbers::SYMBOL_LARGE;
 use segwit::MAX_STRING_LENGTH;
 ghost use mathlib.Core.Path.{_≡_};
 ghost use Prim.Native.Nat.{ℕ, _+_, _≤_, _<_};

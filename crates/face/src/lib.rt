@@ -5,12 +5,13 @@
 // What is proved of a function with `apart` in its name is proved for results and buffers that lie apart from all else that is given, as the
 // language has it. Callers do not know that: c/pennywax.c, which they call, asks pennywax_ranges_overlap first.
 use answers::Address;
-use answers::CHECKSUM_UNKNOWN;
 use answers::Located;
-use answers::RANGES_OVERLAP;
 use answers::Reading;
 use answers::Written;
 use checksum::Checksum;
+use numbers::ACCEPTED;
+use numbers::CHECKSUM_UNKNOWN;
+use numbers::RANGES_OVERLAP;
 ghost use mathlib.Core.Path.{_≡_};
 ghost use Prim.Native.Nat.{_+_};
 ghost use lib.Dec.{ltb};
@@ -19,13 +20,9 @@ ghost use Rattle.face.specs.Codes.{codedRead, codedLocate, CodedBytes, C
 ghost use Rattle.face.specs.Overlap.{top};
 ghost use Rattle.face.specs.Promises.{AddressChecked, AddressRead, StringRead, PlaceLocated, BytesRead, SymbolsWritten, BytesWritten, AddressWritten, OverlapTold};
 
-const ACCEPTED: u8 = 0;
-
 const BECH32: u8 = 1;
 
 const BECH32M: u8 = 2;
-
-const APART: u8 = 0;
 
 #[no_mangle]
 pub extern "C" fn pennywax_apart_check_address(s: &[u8], version: &mut u8, length: &mut usize) -> u8
@@ -202,10 +199,10 @@ pub extern "C" fn pennywax_ranges_overlap(a: usize, m: usize, b: usize, n: usize
     ensures { λ r. ⌜ OverlapTold a m b n r ⌝ }
 {
     if m == 0 {
-        return APART;
+        return ACCEPTED;
     }
     if n == 0 {
-        return APART;
+        return ACCEPTED;
     }
     if reaches_past_top(a, m) {
         return RANGES_OVERLAP;
@@ -215,12 +212,12 @@ pub extern "C" fn pennywax_ranges_overlap(a: usize, m: usize, b: usize, n: usize
     }
     if a < b {
         if m <= b - a {
-            return APART;
+            return ACCEPTED;
         }
         return RANGES_OVERLAP;
     }
     if n <= a - b {
-        return APART;
+        return ACCEPTED;
     }
     RANGES_OVERLAP
 }

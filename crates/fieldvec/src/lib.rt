@@ -1,9 +1,10 @@
 // A short list of elements of GF(1024): a fixed array with a count. An element is worked with as a u32 and stored as a u16, by its
 // remainder modulo the field's order, and that loses nothing of it (proofs/Stored.antt). A symbol of GF(32) is the same number in
 // GF(1024), so one list serves both.
-use answers::LIST_FULL;
-use answers::LIST_PLACE;
 use gf32_ext::FIELD_ORDER;
+use numbers::ACCEPTED;
+use numbers::LIST_FULL;
+use numbers::LIST_PLACE;
 ghost use mathlib.Core.Path.{_≡_};
 ghost use Prim.Native.Nat.{_≤_};
 ghost use mathlib.Core.List.{[], map, reverse};
@@ -12,8 +13,6 @@ ghost use Rattle.laws.specs.Lists.{table};
 ghost use Rattle.gf32_ext.specs.Field.{power};
 ghost use Rattle.fieldvec.specs.Lists.{capacity, listed, refused, nothing, pointwise, alike, symbolOf};
 ghost use Rattle.fieldvec.specs.Promises.{Emptied, Pushed, PoppedBack, PoppedFront, Got, Lifted, MultipliedPointwise, PowersGiven, Reversed, Compared, Narrowed};
-
-const ACCEPTED: u8 = 0;
 
 // How many elements a list has room for.
 pub const CAPACITY: usize = 7;

@@ -1,7 +1,7 @@
 // GF(1024), the extension of GF(32) in which the roots of the checksum's generator lie. The element a0 + a1 e, with e^2 = e + 1, is
 // the number a0 + 32 a1; a larger number counts by its remainder modulo the field's order. An element in hand is a u32; where many are
 // kept (fieldvec), each is stored as a u16.
-use answers::DIVISION_BY_ZERO;
+use numbers::DIVISION_BY_ZERO;
 ghost use mathlib.Core.Path.{_≡_};
 ghost use Rattle.gf32_ext.specs.Field.{low, high, packed};
 ghost use Rattle.gf32_ext.specs.Roots.{rootGenerator};

@@ -1,10 +1,10 @@
 // Regrouping, document 01's module 7: bytes into symbols of five bits and back, the most significant bit first, over the caller's slices.
 // A symbol counts by its low five bits.
-use answers::PADDING_LONG;
-use answers::PADDING_NOT_ZERO;
-use answers::ROOM_SMALL;
 use answers::Verdict;
 use answers::Written;
+use numbers::PADDING_LONG;
+use numbers::PADDING_NOT_ZERO;
+use numbers::ROOM_SMALL;
 ghost use mathlib.Core.Path.{_≡_};
 ghost use mathlib.Core.List.{List, _++_, map};
 ghost use Prim.Native.Nat.{ℕ, _+_, _-_, _*_, _/_, _%_, _^_, _≤_, _<_};

@@ -2,8 +2,8 @@
 // between two pieces the caller keeps a line buffer of at least 91 bytes and the count that the last call gave back. Memory stays the same
 // however long a line is.
 use answers::Address;
-use answers::ROOM_SMALL;
 use answers::Written;
+use numbers::ROOM_SMALL;
 ghost use mathlib.Core.Path.{_≡_};
 ghost use Prim.Native.Nat.{_+_, _≤_};
 ghost use lib.ListN.{length, take};

@@ -1,15 +1,16 @@
 // Polynomials over GF(1024): a FieldVec's elements are the coefficients, the constant term first, and the empty list is the zero
 // polynomial. A FieldVec whose count is over its capacity is refused with 26. An element is worked with as a u32; a polynomial that is
 // made stores it as a u16, which loses nothing of it: each is below the field's order.
-use answers::DIVISION_BY_ZERO;
-use answers::LIST_FULL;
-use answers::LIST_PLACE;
 use fieldvec::CAPACITY;
 use fieldvec::Changed;
 use fieldvec::Element;
 use fieldvec::FieldVec;
 use fieldvec::narrowed;
 use gf32_ext::FIELD_ORDER;
+use numbers::ACCEPTED;
+use numbers::DIVISION_BY_ZERO;
+use numbers::LIST_FULL;
+use numbers::LIST_PLACE;
 ghost use mathlib.Core.Path.{_≡_};
 ghost use mathlib.Core.List.{[], _++_};
 ghost use Prim.Native.Nat.{_+_, _-_, _*_, _≤_, _<_, _%_, min};
@@ -22,8 +23,6 @@ ghost use Rattle.polynomial.specs.Polynomials.{degree, valueAt, trimmed,
 ghost use Rattle.polynomial.specs.Products.{coefficient, coefficientsFrom, productModulo, convolved};
 ghost use Rattle.polynomial.specs.Answers.{fitting, groupOrder, rootFrom};
 ghost use Rattle.polynomial.specs.Promises.{DegreeGiven, LeadingGiven, ZeroAsked, Evaluated, Derived, Multiplied, Convolved, FromResidue, RootFound};
-
-const ACCEPTED: u8 = 0;
 
 // The order of the field's multiplicative group: exponents of a base below it give each of its powers.
 const GROUP_ORDER: usize = FIELD_ORDER as usize - 1;

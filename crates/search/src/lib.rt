@@ -1,9 +1,9 @@
 // The four-error search: is there a change of 1 to 4 symbols within a window that the checksum does not see? It walks down the window's
 // places and holds one residue for each change, so the scratch is wiped and never read.
-use answers::BUDGET_SPENT;
-use answers::SCRATCH_SMALL;
-use answers::WINDOW_OUTSIDE;
 use checksum::Engine;
+use numbers::BUDGET_SPENT;
+use numbers::SCRATCH_SMALL;
+use numbers::WINDOW_OUTSIDE;
 ghost use mathlib.Core.Path.{_≡_};
 ghost use mathlib.Core.List.{[], _∷_};
 ghost use Prim.Native.Nat.{_≤_};

@@ -1,8 +1,8 @@
 // Segwit's rules on the witness version and on the program's length: BIP-173, "Segwit address format".
-use answers::PROGRAM_LENGTH;
-use answers::PROGRAM_LENGTH_VERSION_0;
-use answers::VERSION_UNKNOWN;
 use answers::Verdict;
+use numbers::PROGRAM_LENGTH;
+use numbers::PROGRAM_LENGTH_VERSION_0;
+use numbers::VERSION_UNKNOWN;
 ghost use mathlib.Core.Path.{_≡_};
 ghost use Rattle.segwit.specs.Promises.{VersionChecked, ProgramLengthChecked};
 
