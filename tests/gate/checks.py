@@ -4,7 +4,7 @@ import re
 import shutil
 import subprocess
 
-from . import edits, lists, sources, statements
+from . import edits, lists, prover, sources, statements
 
 NO_RT = ("rt", "it is not on PATH: install the Rattle kit, or add its bin folder to PATH")
 
@@ -67,6 +67,8 @@ def knows(root, report):
         report.fail(place, what)
     for crate in sorted({*repository.folders, *repository.listed, *repository.crates}):
         report.check(crate_problems(repository, crate))
+    for crate, place in repository.listed.items():
+        report.check(edge_problems(root, repository, crate, place))
     for file in repository.files:
         if "/" not in file:
             report.fail(f"crates/{file}", "a file of no crate")
@@ -91,6 +93,14 @@ def crate_problems(repository, crate):
     own = [file.removeprefix(f"{crate}/") for file in repository.files if file.startswith(f"{crate}/")]
     unknown = [file for file in own if not FILES.fullmatch(file)]
     return problems + [(f"crates/{crate}/{file}", "a file of a kind that no crate has") for file in unknown]
+
+
+def edge_problems(root, repository, crate, place):
+    """The crates below that nothing of a crate names: `other::` or `use other` in its code, `Rattle.other.` in code or antt."""
+    files = [path for path in (root / "crates" / crate).rglob("*") if path.suffix in (".rt", ".antt")]
+    text = "\n".join(sources.read_without(sources.RATTLE_SILENT if path.suffix == ".rt" else sources.ANTT_SILENT, path) for path in files)
+    return [(place, f"{crate} names nothing of {other}") for other in prover.crates(root)[crate]
+            if other in repository.folders and not re.search(rf"\b{other}::|\buse {other}\b|Rattle\.{other}\.", text)]
 
 
 def place_of(function):
