@@ -11,11 +11,11 @@ use Rattle.gf32.specs.Field.{products, timesA, sum as sum32, product as product
 use Rattle.gf32_ext.specs.Field.{sum, product, power, inverse, quotient}
 use Rattle.gf32_ext.specs.declared.Quotient.the-variants.{Value}
 use Rattle.detection.specs.Roots.{turn, valueOf, value}
-use Rattle.answers.specs.Locator.{explains, placeVerdict, locateVerdict}
-use Rattle.answers.specs.declared.Located.{Located}
-use Rattle.answers.specs.declared.Located.the-variants as located
 use Rattle.answers.proofs.Computing.{computing}
 use Rattle.checksum.specs.declared.Checksum.the-variants.{Bech32}
+use Rattle.correction.specs.Locator.{explains, placeVerdict, locateVerdict}
+use Rattle.correction.specs.declared.Located.{Located}
+use Rattle.correction.specs.declared.Located.the-variants as located
 use Rattle.correction.specs.Promises.{WasLocated}
 use Rattle.correction.proofs.Verdicts.{place-missing}
 use Rattle.correction.proofs.OneChange.{small-change, one-ratio as third-fits}

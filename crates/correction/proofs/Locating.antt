@@ -11,17 +11,17 @@ use Rattle.paper.specs.Checksum.{residue}
 use Rattle.paper.proofs.Symbols.{symbols-of}
 use Rattle.paper.proofs.Polymod.{residue-lt}
 use Rattle.answers.specs.Reading.{stringRules, characterOutside, dataPart, prefixPart, readVerdict}
-use Rattle.answers.specs.Locator.{placeVerdict, afterReading, locateVerdict}
 use Rattle.answers.specs.declared.Reading.{Reading}
 use Rattle.answers.specs.declared.Reading.the-variants as reading
-use Rattle.answers.specs.declared.Located.{Located}
-use Rattle.answers.specs.declared.Located.the-variants as located
 use Rattle.answers.proofs.Orders.{nowhere}
 use Rattle.decode.specs.Splitting.{partsOf, splitVerdict}
 use Rattle.decode.specs.declared.Parts.{Parts}
 use Rattle.decode.specs.declared.Parted.the-variants as parted
 use Rattle.decode.proofs.Own.{parted-apart, parted-injective, OwnParts, split-own, parts-length, parts-prefix, parts-rest}
 use Rattle.decode.proofs.Generic.{read-split-refused}
+use Rattle.correction.specs.Locator.{placeVerdict, afterReading, locateVerdict}
+use Rattle.correction.specs.declared.Located.{Located}
+use Rattle.correction.specs.declared.Located.the-variants as located
 
 module _ (constant : ℕ) (s : List ℕ) where
   place : Located

@@ -11,10 +11,10 @@ use Rattle.laws.specs.Lists.{anyBelow, firstBelow}
 use Rattle.laws.proofs.Below.{some-below, below-some}
 use Rattle.laws.proofs.First.{first-below, found-below}
 use Rattle.paper.specs.Checksum.{changeAt}
-use Rattle.answers.specs.Locator.{explains, placeVerdict}
-use Rattle.answers.specs.declared.Located.the-variants as located
 use Rattle.detection.specs.Places.{Explains}
 use Rattle.detection.proofs.Locate.{one-place}
+use Rattle.correction.specs.Locator.{explains, placeVerdict}
+use Rattle.correction.specs.declared.Located.the-variants as located
 
 module _ (constant r p : ℕ) where
   pub explains-statement : explains constant r p ≡ true → Explains r constant p

@@ -1,1 +1,3 @@
+pub mod Locator
+pub mod Numbers
 pub mod Promises

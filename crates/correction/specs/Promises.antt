@@ -3,10 +3,10 @@ use mathlib.Core.Path.{_≡_}
 use mathlib.Core.List.{List}
 use Prim.Native.Nat.{ℕ}
 use Rattle.laws.proofs.Bools.{same}
-use Rattle.answers.specs.Locator.{locateVerdict}
-use Rattle.answers.specs.declared.Located.{Located}
 use Rattle.checksum.specs.Parameters.{constantFor}
 use Rattle.checksum.specs.declared.Checksum.{Checksum}
+use Rattle.correction.specs.Locator.{locateVerdict}
+use Rattle.correction.specs.declared.Located.{Located}
 
 -- correction::locate
 abbrev pub WasLocated : Checksum → List ℕ → Located → Type 0

@@ -1,6 +1,5 @@
 // The place of one changed symbol: document 01's module 10. BIP-173 has a place suggested and never what belongs there, so only the place
 // comes out. No list of changes and no shift register: one change is all that is looked for.
-use answers::Located;
 use answers::Reading;
 use checksum::Checksum;
 use checksum::Engine;
@@ -20,10 +19,10 @@ ghost use Prim.Native.Nat.{_+_, _^_, _≤_, _<_};
 ghost use lib.ListN.{length, take, drop};
 ghost use Rattle.paper.specs.Charset.{symbol};
 ghost use Rattle.paper.specs.Checksum.{residue};
-ghost use Rattle.answers.specs.Locator.{placeVerdict};
 ghost use Rattle.gf32_ext.specs.Field.{fieldOrder, power};
 ghost use Rattle.fieldvec.specs.Lists.{capacity, elements, listed};
 ghost use Rattle.polynomial.specs.Polynomials.{valueAt};
+ghost use Rattle.correction.specs.Locator.{placeVerdict};
 ghost use Rattle.correction.specs.Promises.{WasLocated};
 
 // The generator's three roots that follow one another: these powers of ROOT_GENERATOR.
@@ -32,6 +31,12 @@ const ROOT_24: u32 = 780;
 const ROOT_25: u32 = 878;
 
 const ROOT_26: u32 = 966;
+
+// The place of one changed symbol, counted from the end.
+pub enum Located {
+    At(usize),
+    Refused(u8),
+}
 
 // For a string that generic reading refuses with 9: the one place, counted from the end, at which another symbol would give
 // the accepting residue. It may lie before the string's data part.

@@ -9,11 +9,12 @@ use borrow.Author.Tests.{eq-eqb, ne-eqb}
 use Rattle.paper.specs.Checksum.{bech32, bech32m}
 use Rattle.answers.specs.Reading.{readVerdict, readBytesVerdict}
 use Rattle.answers.specs.Writing.{writeVerdict}
-use Rattle.answers.specs.Locator.{locateVerdict}
 use Rattle.answers.specs.declared.Reading.the-variants as reading
 use Rattle.answers.specs.declared.Written.the-variants as written
-use Rattle.answers.specs.declared.Located.the-variants as located
-use Rattle.answers.proofs.Refusals.{reading-never, reading-bytes-never, write-never, locate-never}
+use Rattle.answers.proofs.Refusals.{reading-never, reading-bytes-never, write-never}
+use Rattle.correction.specs.Locator.{locateVerdict}
+use Rattle.correction.specs.declared.Located.the-variants as located
+use Rattle.correction.proofs.Refusals.{locate-never}
 use Rattle.face.specs.Codes.{byCode, codedRead, codedLocate, codedBytes, codedWrite}
 
 unknown-only : {A : Type 0} (code : ℕ) (answer : ℕ → A) (unknown : A) → ((constant : ℕ) → answer constant ≡ unknown → ⊥)

@@ -11,9 +11,10 @@ use Rattle.answers.specs.Reading.{readAddressVerdict, readBytesVerdict, program
 use Rattle.answers.specs.declared.Written.{Written}
 use Rattle.answers.specs.declared.Written.the-variants as written
 use Rattle.answers.proofs.Computing.{computing}
+use Rattle.correction.specs.Numbers.{numberOfLocated, placeOfLocated}
 use Rattle.correction.proofs.Examples.{last-changed, fourth-changed}
 use Rattle.answers.proofs.Cases.{taproot, room-32, abcd-bech32, write-90, write-version-17}
-use Rattle.answers.specs.Numbers.{numberOfReading, numberOfWritten, numberOfAddress, versionOfAddress, numberOfLocated, placeOfLocated}
+use Rattle.answers.specs.Numbers.{numberOfReading, numberOfWritten, numberOfAddress, versionOfAddress}
 use Rattle.face.specs.Overlap.{overlapNumber}
 use Rattle.face.specs.Codes.{codedRead, codedLocate, codedBytes, codedWrite, codedString}
 use Rattle.face.specs.Promises.{AddressChecked, AddressRead, StringRead, PlaceLocated, BytesRead, SymbolsWritten, BytesWritten, AddressWritten, OverlapTold}

@@ -12,14 +12,15 @@ use Rattle.answers.specs.declared.Written.{Written}
 use Rattle.answers.specs.declared.Written.the-variants as written
 use Rattle.answers.specs.declared.Address.{Address}
 use Rattle.answers.specs.declared.Address.the-variants as address
-use Rattle.answers.specs.declared.Located.{Located}
-use Rattle.answers.specs.declared.Located.the-variants as located
 use Rattle.checksum.specs.declared.Checksum.{Checksum}
 use Rattle.checksum.specs.declared.Checksum.the-variants.{Bech32, Bech32m}
 use Rattle.decode.specs.Promises.{AddressRead as WasAddressRead, BytesRead as WasBytesRead}
 use Rattle.encode.specs.Promises.{SymbolsWritten as WasSymbolsWritten, BytesWritten as WasBytesWritten, AddressWritten as WasAddressWritten}
 use Rattle.answers.specs.Writing.{writeBytesVerdict}
-use Rattle.answers.specs.Numbers.{numberOfReading, prefixOfReading, symbolsOfReading, numberOfWritten, countOfWritten, numberOfAddress, versionOfAddress, lengthOfAddress, numberOfLocated, placeOfLocated}
+use Rattle.answers.specs.Numbers.{numberOfReading, prefixOfReading, symbolsOfReading, numberOfWritten, countOfWritten, numberOfAddress, versionOfAddress, lengthOfAddress}
+use Rattle.correction.specs.declared.Located.{Located}
+use Rattle.correction.specs.declared.Located.the-variants as located
+use Rattle.correction.specs.Numbers.{numberOfLocated, placeOfLocated}
 use Rattle.face.specs.Codes.{codedRead, codedLocate, codedBytes, CodedBytes, codedWrite, codedString, CodedWritten}
 use Rattle.face.specs.Promises.{AddressChecked, AddressRead, StringRead, PlaceLocated, BytesRead, SymbolsWritten, AddressWritten}
 

@@ -13,9 +13,9 @@ use Rattle.answers.specs.declared.Reading.{Reading}
 use Rattle.answers.specs.declared.Reading.the-variants as reading
 use Rattle.answers.specs.declared.Written.{Written}
 use Rattle.answers.specs.declared.Written.the-variants as written
-use Rattle.answers.specs.Locator.{locateVerdict}
-use Rattle.answers.specs.declared.Located.{Located}
-use Rattle.answers.specs.declared.Located.the-variants as located
+use Rattle.correction.specs.Locator.{locateVerdict}
+use Rattle.correction.specs.declared.Located.{Located}
+use Rattle.correction.specs.declared.Located.the-variants as located
 
 -- what is answered for a code, given what is answered for a checksum's constant and what is answered for an unknown code
 abbrev pub byCode : {A : Type 0} → ℕ → (ℕ → A) → A → A

@@ -7,7 +7,8 @@ use Rattle.laws.proofs.Bools.{same}
 use Rattle.paper.specs.Bits.{toBytes, toSymbols}
 use Rattle.answers.specs.Reading.{payloadSymbols, programOf, addressVerdict, readAddressVerdict, programAfter, bufferAfter}
 use Rattle.answers.specs.Writing.{writtenAddress, writeAddressVerdict}
-use Rattle.answers.specs.Numbers.{numberOfReading, prefixOfReading, symbolsOfReading, numberOfWritten, countOfWritten, numberOfAddress, versionOfAddress, lengthOfAddress, numberOfLocated, placeOfLocated}
+use Rattle.answers.specs.Numbers.{numberOfReading, prefixOfReading, symbolsOfReading, numberOfWritten, countOfWritten, numberOfAddress, versionOfAddress, lengthOfAddress}
+use Rattle.correction.specs.Numbers.{numberOfLocated, placeOfLocated}
 use Rattle.face.specs.Overlap.{overlapNumber}
 use Rattle.face.specs.Codes.{codedRead, codedLocate, codedBytes, codedWrite, codedString}
 

@@ -5,10 +5,10 @@
 // What is proved of a function with `apart` in its name is proved for results and buffers that lie apart from all else that is given, as the
 // language has it. Callers do not know that: c/pennywax.c, which they call, asks pennywax_ranges_overlap first.
 use answers::Address;
-use answers::Located;
 use answers::Reading;
 use answers::Written;
 use checksum::Checksum;
+use correction::Located;
 use numbers::ACCEPTED;
 use numbers::CHECKSUM_UNKNOWN;
 use numbers::RANGES_OVERLAP;

@@ -18,11 +18,8 @@ use Rattle.paper.specs.Checksum.{polymod, expand, residue}
 use Rattle.paper.proofs.Symbols.{symbols-of}
 use Rattle.paper.proofs.Polymod.{polymod-append}
 use Rattle.answers.specs.Reading.{dataPart, prefixPart, mixedCase, readVerdict}
-use Rattle.answers.specs.Locator.{explains, placeVerdict, afterReading, locateVerdict}
 use Rattle.answers.specs.declared.Reading.{Reading}
 use Rattle.answers.specs.declared.Reading.the-variants as reading
-use Rattle.answers.specs.declared.Located.{Located}
-use Rattle.answers.specs.declared.Located.the-variants as located
 use Rattle.answers.proofs.Refusals.{reading-never}
 use Rattle.detection.specs.Patterns.{dist}
 use Rattle.detection.specs.Places.{Explains}
@@ -32,6 +29,9 @@ use Rattle.checksum.specs.Parameters.{constantFor}
 use Rattle.checksum.specs.declared.Checksum.{Checksum}
 use Rattle.decode.specs.Promises.{WasRead}
 use Rattle.decode.proofs.Generic.{read-prefix-length, read-payload-length}
+use Rattle.correction.specs.Locator.{explains, placeVerdict, afterReading, locateVerdict}
+use Rattle.correction.specs.declared.Located.{Located}
+use Rattle.correction.specs.declared.Located.the-variants as located
 use Rattle.correction.specs.Promises.{WasLocated}
 use Rattle.correction.proofs.Verdicts.{statement-explains, place-found, place-given, place-missing}
 use Rattle.theorems.specs.Changes.{Changed, ChangedAt}

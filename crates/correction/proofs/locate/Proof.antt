@@ -1,9 +1,9 @@
 -- `locate` meets its promise: what reading refuses is refused, and the place is looked for where it says 9.
 use mathlib.Core.Path.{sym, ap, _∙_}
 use Prim.Native.Nat.{ℕ}
-use Rattle.answers.specs.Locator.{placeVerdict}
 use Rattle.checksum.specs.Parameters.{constantFor}
 use Rattle.checksum.proofs.Constants.{constant-lt}
+use Rattle.correction.specs.Locator.{placeVerdict}
 use Rattle.correction.proofs.Locating.{split-keeps, accepted-unplaced, keeps, prefix-inside, residue-small, nine-placed}
 use borrow.Author.Needs.{needs}
 use Rattle.correction.proofs.locate.Statement.{statement}

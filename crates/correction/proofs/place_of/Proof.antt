@@ -4,8 +4,6 @@ use mathlib.Core.List.{[], _∷_}
 use Prim.Native.Nat.{ℕ, _<_}
 use native.Mathlib.Omega.{arith}
 use Rattle.laws.specs.Xor.{_⊕_}
-use Rattle.answers.specs.Locator.{placeVerdict}
-use Rattle.answers.specs.declared.Located.the-variants as located
 use Rattle.gf32_ext.specs.Field.{power, quotient}
 use Rattle.gf32_ext.specs.Roots.{rootGenerator}
 use Rattle.gf32_ext.specs.declared.Quotient.the-variants.{Value}
@@ -15,6 +13,8 @@ use Rattle.fieldvec.specs.Lists.{listed}
 use Rattle.polynomial.specs.Answers.{firstRoot}
 use Rattle.detection.specs.Places.{Explains}
 use Rattle.detection.specs.Roots.{value}
+use Rattle.correction.specs.Locator.{placeVerdict}
+use Rattle.correction.specs.declared.Located.the-variants as located
 use Rattle.correction.proofs.Elements.{root-24, root-25, root-26, difference-length, syndrome}
 use Rattle.correction.proofs.Verdicts.{statement-explains, place-found, place-missing}
 use Rattle.correction.proofs.OneChange.{has-ratio, ratio-is, one-ratio, has-change, small-change, place-explains, root-never-refused, root-there, root-below, root-found}
