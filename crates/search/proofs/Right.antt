@@ -6,7 +6,7 @@ use native.Mathlib.Nat.{le-refl}
 use native.Mathlib.Omega.{arith}
 use lib.Dec.{lit<, lit≤}
 use lib.ListN.{length, replicate}
-use Rattle.answers.specs.Search.{NonePasses}
+use Rattle.search.specs.Search.{NonePasses}
 use Rattle.search.specs.declared.Found.the-variants.{None, Refused}
 use Rattle.search.specs.Patterns.{changesOf, described}
 use Rattle.search.specs.Promises.{Searched}

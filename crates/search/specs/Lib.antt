@@ -1,3 +1,4 @@
+pub mod Search
 pub mod Patterns
 pub mod Steps
 pub mod Walk

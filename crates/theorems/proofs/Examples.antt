@@ -11,7 +11,6 @@ use Rattle.paper.specs.Charset.{symbol}
 use Rattle.paper.specs.Checksum.{residue, changeAt, bech32, bech32m}
 use Rattle.answers.specs.Accepted.{ReadAs, AddressAs}
 use Rattle.answers.specs.Reading.{readVerdict, addressVerdict}
-use Rattle.answers.specs.Search.{Passes}
 use Rattle.answers.specs.declared.Reading.the-variants as reading
 use Rattle.answers.specs.declared.Written.the-variants as written
 use Rattle.answers.specs.declared.Address.the-variants as address
@@ -30,6 +29,7 @@ use Rattle.decode.specs.Symbols.{readSymbolsVerdict}
 use Rattle.decode.specs.Promises.{SymbolsRead, BytesRead, AddressRead}
 use Rattle.encode.specs.Promises.{SymbolsWritten, BytesWritten, AddressWritten}
 use Rattle.encode.proofs.Accepted.{SymbolsFit, AddressFits, symbols-accepted, address-accepted}
+use Rattle.search.specs.Search.{Passes}
 use Rattle.search.proofs.Windows.{pattern-passes}
 use Rattle.correction.proofs.Examples.{last-changed, accepted-none, not-in-the-field}
 use Rattle.theorems.specs.Changes.{Changed, ChangedAt, SameChecksum}

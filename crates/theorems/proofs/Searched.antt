@@ -8,13 +8,13 @@ use native.Mathlib.Omega.{arith}
 use lib.ListN.{length, length-append}
 use borrow.Author.Tests.{eqb-false}
 use Rattle.answers.specs.Reading.{dataPart, prefixPart, prefixEmpty, readVerdict}
-use Rattle.answers.specs.Search.{NonePasses}
 use Rattle.answers.specs.declared.Reading.{Reading}
 use Rattle.answers.specs.declared.Reading.the-variants as reading
 use Rattle.checksum.specs.Parameters.{constantFor}
 use Rattle.checksum.specs.declared.Checksum.{Checksum}
 use Rattle.decode.specs.Promises.{WasRead}
 use Rattle.detection.specs.Patterns.{Clean}
+use Rattle.search.specs.Search.{NonePasses}
 use Rattle.search.specs.Promises.{Searched}
 use Rattle.search.specs.declared.Found.the-variants.{None}
 use Rattle.search.proofs.Consequences.{none-means-none}
