@@ -11,8 +11,8 @@ use borrow.Author.Tests.{lt-ltb, ltb-true, ltb-false}
 use Rattle.laws.specs.Pick.{pick}
 use Rattle.answers.specs.Reading.{addressVerdict, longerThan}
 use Rattle.answers.specs.Numbers.{numberOfAddress}
-use Rattle.answers.specs.Lines.{answerTo}
 use Rattle.answers.specs.declared.Address.the-variants.{Refused}
+use Rattle.lines.specs.Lines.{answerTo}
 
 pub long-10 : (l : List ℕ) → 90 < length l → addressVerdict l ≡ Refused 10
 unfolding addressVerdict longerThan

@@ -5,10 +5,10 @@ use mathlib.Core.List.{List, [], _∷_}
 use Prim.Native.Nat.{ℕ}
 use native.Mathlib.Omega.{arith}
 use lib.ListN.{getD, replicate}
-use Rattle.answers.specs.Lines.{answerTo}
 use Rattle.answers.specs.declared.Written.{Written}
 use Rattle.answers.specs.declared.Written.the-variants as written
 use Rattle.answers.proofs.Computing.{computing}
+use Rattle.lines.specs.Lines.{answerTo}
 use Rattle.lines.specs.Feeding.{answered, lineWith, countWith, kept, full, passed, fedFrom, keptCount, start, stuck, fed, fedRefused, finished, finishRefused}
 use Rattle.lines.specs.Promises.{WasFed, WasFinished}
 use Rattle.lines.specs.declared.Fed.{Fed}

@@ -10,7 +10,7 @@ use lib.ListN.{length, take, length-append}
 use lib.Seq.{take-all, take-append-le, length-take-le}
 use borrow.Author.Tests.{le-ltb, ltb-true, ltb-false, ne-eqb}
 use Rattle.laws.specs.Pick.{pick}
-use Rattle.answers.specs.Lines.{onto, linesOf, answerTo, answersTo, outputOf}
+use Rattle.lines.specs.Lines.{onto, linesOf, answerTo, answersTo, outputOf}
 use Rattle.lines.proofs.Cut.{cut-answer}
 
 unfoldable pub keptWith : ℕ → List ℕ → List ℕ

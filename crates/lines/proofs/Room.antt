@@ -10,7 +10,7 @@ use lib.Dec.{eqb}
 use lib.ListN.{length, take, length-append}
 use lib.Seq.{length-take-le}
 use borrow.Author.Tests.{lt-ltb, le-ltb, ltb-true}
-use Rattle.answers.specs.Lines.{answerTo}
+use Rattle.lines.specs.Lines.{answerTo}
 use Rattle.lines.specs.Feeding.{standing, full, keptCount, start, fed, fedRefused, finishRefused}
 use Rattle.lines.specs.Numbers.{numberOfFed, takenOfFed, writtenOfFed, lenOfFed}
 use Rattle.lines.specs.declared.Fed.the-variants.{Took, Refused}

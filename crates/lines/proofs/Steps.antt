@@ -13,8 +13,8 @@ use borrow.Author.Tests.{lt-ltb, le-ltb, eq-eqb, ne-eqb}
 use Rattle.laws.specs.Pick.{pick}
 use Rattle.answers.specs.Reading.{addressVerdict}
 use Rattle.answers.specs.Numbers.{numberOfAddress}
-use Rattle.answers.specs.Lines.{decimal, answerTo}
 use Rattle.answers.specs.declared.Written.the-variants as written
+use Rattle.lines.specs.Lines.{decimal, answerTo}
 use Rattle.lines.specs.Feeding.{Standing, standing, answered, kept, lineWith, countWith, answerLength, full, passed, fedFrom, keptCount, start, stuck, fed, fedRefused, finished, finishRefused}
 use Rattle.lines.specs.Promises.{progress, told, WentOn, WasFed, WasFinished}
 use Rattle.lines.specs.declared.Fed.{Fed}

@@ -11,9 +11,9 @@ use lib.Dec.{eqb, ltb}
 use lib.ListN.{length, take, drop, set, length-set, length-append}
 use lib.Seq.{sets, sets-eq, length-sets, take-at, take-suc-set, take-all, length-take-le}
 use borrow.Author.Tests.{lt-ltb, le-ltb, ltb-true, ltb-false, eqb-true}
-use Rattle.answers.specs.Lines.{answerTo, outputOf}
 use Rattle.laws.specs.Pick.{pick}
 use Rattle.answers.specs.declared.Written.the-variants as written
+use Rattle.lines.specs.Lines.{answerTo, outputOf}
 use Rattle.lines.specs.Feeding.{Standing, standing, answered, kept, lineWith, countWith, full, passed, fedFrom, keptCount, start, stuck, fed, fedRefused, finished, finishRefused}
 use Rattle.lines.specs.Promises.{WasFed, WasFinished}
 use Rattle.lines.specs.declared.Fed.the-variants.{Took}

@@ -8,7 +8,7 @@ use lib.Dec.{eqb, ltb}
 use lib.ListN.{length, take, set}
 use lib.Seq.{sets}
 use Rattle.laws.specs.Pick.{pick}
-use Rattle.answers.specs.Lines.{answerTo}
+use Rattle.lines.specs.Lines.{answerTo}
 
 -- how far it has come: the bytes taken of the input, the line buffer with how many of its bytes are the present line, the output
 -- buffer with how many of its bytes are answers

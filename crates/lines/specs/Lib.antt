@@ -1,3 +1,4 @@
+pub mod Lines
 pub mod Feeding
 pub mod Promises
 pub mod Calls

@@ -11,7 +11,7 @@ ghost use lib.Seq.{sets};
 ghost use mathlib.Core.List.{[], _∷_, _++_};
 ghost use Rattle.answers.specs.Reading.{addressVerdict};
 ghost use Rattle.answers.specs.Numbers.{numberOfAddress};
-ghost use Rattle.answers.specs.Lines.{decimal};
+ghost use Rattle.lines.specs.Lines.{decimal};
 ghost use Rattle.lines.specs.Feeding.{keptCount, countWith, lineWith, standing, answerLength};
 ghost use Rattle.lines.specs.Promises.{WasFed, WasFinished, WentOn};
 
