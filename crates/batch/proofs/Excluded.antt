@@ -1,18 +1,15 @@
 -- Wrong answers that the promises rule out, each on a concrete input: the address of document 01's first case, alone in its buffer.
 use mathlib.Core.Path.{_≡_, ap}
-use mathlib.Core.List.{List, [], _∷_, _++_}
+use mathlib.Core.List.{List, [], _∷_}
 use Prim.Native.Nat.{ℕ}
 use native.Mathlib.Omega.{arith}
 use lib.ListN.{getD, replicate}
-use Rattle.answers.specs.Batch.{entryVerdict, judged, batchVerdict, countVerdict}
-use Rattle.answers.specs.declared.Entry.{Entry}
-use Rattle.answers.specs.declared.Verdict.the-variants as verdict
 use Rattle.answers.proofs.Computing.{computing}
-use Rattle.batch.specs.ByValue.{judgedAll}
-use Rattle.batch.specs.Promises.{EntryJudged, BatchJudged, AllJudged}
-use Rattle.batch.specs.declared.Judged.{Judged}
-use Rattle.batch.proofs.Turns.{none}
-use Rattle.batch.proofs.Alone.{taproot-text, two-entries, two-judged, two-by-value, two-lent}
+use Rattle.batch.specs.Batch.{entryVerdict, judged, batchVerdict}
+use Rattle.batch.specs.Promises.{EntryJudged, BatchJudged}
+use Rattle.batch.specs.declared.Entry.{Entry}
+use Rattle.batch.proofs.Entries.{none}
+use Rattle.batch.proofs.Alone.{taproot-text, two-entries, two-lent}
 
 -- an entry that is not judged yet: what its results hold is not looked at
 abbrev pub asked : ℕ → ℕ → Entry
@@ -47,7 +44,7 @@ pub not-a-refused-version : EntryJudged taproot-text (asked 1 62) (answered 1 62
 unfolding computing entryVerdict judged taproot-text
 not-a-refused-version p = let e : _≡_ {A = ℕ} 99 0 = ap (λ (r : Entry). r .version) p in omega arith
 
--- ---- batch::pennywax_judge_batch
+-- ---- batch::pennywax_apart_judge_batch
 
 -- a batch that stops at the first entry that reaches outside
 pub lent-not-stopped-by-20 : (r : ℕ) → BatchJudged taproot-text two-entries r (answered 1 62 20 0 0 ∷ asked 0 62 ∷ []) → ⊥
@@ -56,41 +53,19 @@ lent-not-stopped-by-20 r p =
 
 -- a batch that answers with the verdict of an entry
 pub lent-not-20 : (after : List Entry) → BatchJudged taproot-text two-entries 20 after → ⊥
-unfolding batchVerdict countVerdict
+unfolding batchVerdict
 lent-not-20 after p = let e : _≡_ {A = ℕ} 20 0 = p .number in omega arith
 
 -- 33 entries judged, or overwritten beside the refusal; 32 refused
 pub not-33-accepted : (buffer : List ℕ) (e : Entry) (after : List Entry) → BatchJudged buffer (replicate 33 e) 0 after → ⊥
-unfolding batchVerdict countVerdict
+unfolding batchVerdict
 not-33-accepted buffer e after p = let z : _≡_ {A = ℕ} 0 19 = p .number in omega arith
 
 pub not-33-overwritten : (buffer : List ℕ) → BatchJudged buffer (replicate 33 (asked 0 0)) 19 (replicate 33 (answered 0 0 1 0 0)) → ⊥
-unfolding batchVerdict countVerdict
+unfolding batchVerdict
 not-33-overwritten buffer p =
     let z : _≡_ {A = ℕ} 1 99 = ap (λ (l : List Entry). getD l 0 none .verdict) (p .entries) in omega arith
 
 pub not-32-refused : (buffer : List ℕ) (e : Entry) (after : List Entry) → BatchJudged buffer (replicate 32 e) 19 after → ⊥
-unfolding batchVerdict countVerdict
+unfolding batchVerdict
 not-32-refused buffer e after p = let z : _≡_ {A = ℕ} 19 0 = p .number in omega arith
-
--- ---- batch::judge_all
-
-pub not-stopped-by-20 : (rest : List Entry)
-    → AllJudged taproot-text (record { entries = two-entries ++ rest; count = 2 }) (record {
-      verdict = verdict.Accepted;
-      batch = record { entries = answered 1 62 20 0 0 ∷ asked 0 62 ∷ rest; count = 2 };
-    })
-    → ⊥
-not-stopped-by-20 rest p =
-    let e : _≡_ {A = ℕ} 99 0 = ap (λ (l : List Entry). getD l 1 none .verdict) (two-by-value rest _ p) in omega arith
-
--- 33 counted and accepted, whatever the array holds; 32 refused
-pub not-33-counted : (buffer : List ℕ) (entries after : List Entry)
-    → AllJudged buffer (record { entries = entries; count = 33 }) (record { verdict = verdict.Accepted; batch = record { entries = after; count = 33 } }) → ⊥
-unfolding judgedAll countVerdict
-not-33-counted buffer entries after p = let e = ap (λ (j : Judged). j .verdict) p in let z : _≡_ {A = ℕ} 0 1 = cc in omega arith
-
-pub not-32-counted-refused : (buffer : List ℕ) (entries after : List Entry)
-    → AllJudged buffer (record { entries = entries; count = 32 }) (record { verdict = verdict.Refused 19; batch = record { entries = after; count = 32 } }) → ⊥
-unfolding judgedAll countVerdict
-not-32-counted-refused buffer entries after p = let e = ap (λ (j : Judged). j .verdict) p in let z : _≡_ {A = ℕ} 0 1 = cc in omega arith

@@ -1,4 +1,4 @@
 pub mod Entries
-pub mod Turns
+pub mod Refusals
 pub mod Alone
 pub mod Excluded

@@ -1,2 +1,2 @@
-pub mod ByValue
+pub mod Batch
 pub mod Promises

@@ -4,11 +4,8 @@ use mathlib.Core.List.{List}
 use Prim.Native.Nat.{ℕ}
 use Rattle.laws.proofs.Bools.{same}
 use Rattle.answers.specs.Numbers.{numberOfVerdict}
-use Rattle.answers.specs.Batch.{judged, batchVerdict, entriesAfter}
-use Rattle.answers.specs.declared.Entry.{Entry}
-use Rattle.batch.specs.ByValue.{judgedAll}
-use Rattle.batch.specs.declared.Batch.{Batch}
-use Rattle.batch.specs.declared.Judged.{Judged}
+use Rattle.batch.specs.Batch.{judged, batchVerdict, entriesAfter}
+use Rattle.batch.specs.declared.Entry.{Entry}
 
 -- batch::judge
 abbrev pub EntryJudged : List ℕ → Entry → Entry → Type 0
@@ -25,10 +22,3 @@ pub record BatchJudged (buffer : List ℕ) (before : List Entry) (r : ℕ) (afte
 pub batch-judged-once : (buffer : List ℕ) (before : List Entry) (r r′ : ℕ) (after after′ : List Entry)
     → BatchJudged buffer before r after → BatchJudged buffer before r′ after′ → (r ≡ r′) × (after ≡ after′)
 batch-judged-once buffer before r r′ after after′ p q = (same (p .number) (q .number), same (p .entries) (q .entries))
-
--- batch::judge_all
-abbrev pub AllJudged : List ℕ → Batch → Judged → Type 0
-AllJudged buffer batch r = r ≡ judgedAll buffer batch
-
-pub all-judged-once : (buffer : List ℕ) (batch : Batch) (r s : Judged) → AllJudged buffer batch r → AllJudged buffer batch s → r ≡ s
-all-judged-once buffer batch r s p q = same p q

@@ -1,27 +1,23 @@
-// Many addresses in one buffer, each judged for itself: document 01's module 11, the batch. A list is lent, or comes by value as
-// an array with a count.
+// Many addresses in one buffer, each judged for itself: document 01's module 11, the batch.
 use answers::Address;
-use answers::Entry;
-use answers::Verdict;
 use numbers::ACCEPTED;
 use numbers::BATCH_LONG;
 use numbers::ENTRY_OUTSIDE;
 ghost use mathlib.Core.Path.{_≡_};
-ghost use Rattle.answers.specs.Batch.{entryVerdict, judgedAs};
-ghost use Rattle.batch.specs.Promises.{EntryJudged, BatchJudged, AllJudged};
+ghost use Rattle.batch.specs.Batch.{entryVerdict, judgedAs};
+ghost use Rattle.batch.specs.Promises.{EntryJudged, BatchJudged};
 
 pub const MAX_ENTRIES: usize = 32;
 
-// The first `count` of the entries are the list.
-pub struct Batch {
-    pub entries: [Entry; 32],
-    pub count: usize,
-}
-
-// The answer of the batch itself, and the entries with theirs.
-pub struct Judged {
-    pub verdict: Verdict,
-    pub batch: Batch,
+// One address of a batch: where it stands in the buffer; its verdict, 0 or a number of `numbers`, and with 0 its version and its program's length. C has it
+// with the same layout.
+#[repr(C)]
+pub struct Entry {
+    pub start: usize,
+    pub len: usize,
+    pub verdict: u8,
+    pub version: u8,
+    pub program: usize,
 }
 
 // One entry with its verdict, version and program length; where it stands is kept.
@@ -82,28 +78,4 @@ pub extern "C" fn pennywax_apart_judge_batch(buffer: &[u8], entries: &mut [Entry
         i += 1;
     }
     ACCEPTED
-}
-
-// The same for a list by value.
-pub fn judge_all(buffer: &[u8], batch: Batch) -> Judged
-    ensures { λ r. ⌜ AllJudged (now (buffer .entry)) batch r ⌝ }
-{
-    let count = batch.count;
-    if MAX_ENTRIES < count {
-        return Judged {
-            verdict: Verdict::Refused(BATCH_LONG),
-            batch,
-        };
-    }
-    let mut judged = batch;
-    let mut i = 0;
-    while i < count {
-        let entry = judged.entries[i];
-        judged.entries[i] = judge(buffer, entry);
-        i += 1;
-    }
-    Judged {
-        verdict: Verdict::Accepted,
-        batch: judged,
-    }
 }

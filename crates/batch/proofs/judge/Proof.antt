@@ -1,7 +1,7 @@
 -- `judge` gives what the definition gives: the verdict of the entry, put into it.
 use mathlib.Core.Path.{ap, _∙_}
 use borrow.Author.Needs.{needs}
-use Rattle.answers.specs.Batch.{judgedAs}
+use Rattle.batch.specs.Batch.{judgedAs}
 use Rattle.batch.proofs.Entries.{entry-judged}
 use Rattle.batch.proofs.judge.Statement.{statement}
 use Rattle.batch.proofs.judge.Tie as tie

@@ -1,7 +1,7 @@
 -- `judged_as` gives what the definition gives, case by case.
 use mathlib.Core.Path.{ap, sym, _∙_}
 use borrow.Author.Needs.{needs}
-use Rattle.answers.specs.Batch.{judgedAs}
+use Rattle.batch.specs.Batch.{judgedAs}
 use Rattle.batch.proofs.judged_as.Statement.{statement}
 use Rattle.batch.proofs.judged_as.Tie as tie
 
