@@ -13,7 +13,7 @@ use Rattle.paper.proofs.Polymod.{residue-lt}
 use Rattle.answers.specs.Reading.{stringRules, characterOutside, dataPart, prefixPart, readVerdict}
 use Rattle.answers.specs.declared.Reading.{Reading}
 use Rattle.answers.specs.declared.Reading.the-variants as reading
-use Rattle.answers.proofs.Orders.{nowhere}
+use Rattle.answers.proofs.Orders.{passed, nowhere}
 use Rattle.decode.specs.Splitting.{partsOf, splitVerdict}
 use Rattle.decode.specs.declared.Parts.{Parts}
 use Rattle.decode.specs.declared.Parted.the-variants as parted
@@ -61,7 +61,7 @@ module _ (constant : ℕ) (s : List ℕ) where
     unfolding characterOutside
     residue-small =
         rw residue-is
-        (residue-lt (prefixPart s) (map symbol (dataPart s)) (symbols-of (dataPart s) (not-false (all isSymbol (dataPart s)) (own .rules .0))))
+        (residue-lt (prefixPart s) (map symbol (dataPart s)) (symbols-of (dataPart s) (not-false (all isSymbol (dataPart s)) (passed 1 (stringRules s) (own .rules)))))
 
     pub nine-placed : (n r : ℕ) → n ≡ 9 → reading.Refused n ≡ readVerdict constant s → r ≡ residue (take (p .prefix) s) (map symbol (drop (p .prefix + 1) s))
         → placeVerdict constant r ≡ locateVerdict constant s

@@ -11,7 +11,7 @@ use Rattle.answers.specs.Reading.{stringRules, dataPart, prefixPart, payload, l
 use Rattle.answers.specs.declared.Reading.{Reading}
 use Rattle.answers.specs.declared.Reading.the-variants as reading
 use Rattle.answers.specs.declared.Verdict.the-variants as verdict
-use Rattle.answers.proofs.Orders.{accepted-only}
+use Rattle.answers.proofs.Orders.{accepted-only, passed}
 use Rattle.answers.proofs.Exact.{reading-injective, reading-apart, payload-length}
 use Rattle.answers.proofs.Refusals.{verdict-apart, verdict-injective}
 use Rattle.checksum.specs.Parameters.{constantFor}
@@ -37,7 +37,7 @@ module _ (constant : ℕ) (s : List ℕ) where
   unfolding splitVerdict readVerdict
   read-split-refused n e =
       stage-refuses parted.Refused parted-injective (parted.Into (partsOf s)) (parted-apart (partsOf s)) reading.Refused accepts (stringRules s)
-      (longerThan 1023 s gives 7 ∷ dataShort s gives 8 ∷ checksumWrong constant s gives 9 ∷ []) n e
+      (drop (length (stringRules s)) (readingRules constant s)) n e
 
   module _ (none : NoneApplies (stringRules s)) where
     rest : firstOf reading.Refused (longerThan 1023 s gives 7 ∷ lastRules) accepts ≡ readVerdict constant s
@@ -59,12 +59,12 @@ module _ (constant : ℕ) (s : List ℕ) where
           stage-refuses verdict.Refused verdict-injective verdict.Accepted verdict-apart reading.Refused accepts lastRules [] n e ∙ last
 
       module _ (checked : verdict.Accepted ≡ sumVerdict constant (prefixPart s) (dataPart s)) where
-        passed : NoneApplies lastRules
+        sum-rules : NoneApplies lastRules
         unfolding sumVerdict
-        passed = accepted-only verdict.Refused verdict-injective verdict.Accepted verdict.Accepted verdict-apart lastRules (sym checked) .0
+        sum-rules = accepted-only verdict.Refused verdict-injective verdict.Accepted verdict.Accepted verdict-apart lastRules (sym checked) .0
 
         enough : 6 ≤ length (dataPart s)
-        enough = ltb-false (length (dataPart s)) 6 (passed .0)
+        enough = ltb-false (length (dataPart s)) 6 (passed 8 lastRules sum-rules)
 
         module _ (p : Parts) (own : p ≡ partsOf s) where
           pub read-enough : 6 ≤ p .symbols
@@ -76,7 +76,7 @@ module _ (constant : ℕ) (s : List ℕ) where
           read-accepted =
               ap (λ (q : Parts). reading.Accepted (q .prefix) (q .symbols - 6)) own
               ∙ ap (reading.Accepted (length (prefixPart s))) (sym (payload-length s))
-              ∙ rest-decides reading.Refused lastRules [] accepts passed
+              ∙ rest-decides reading.Refused lastRules [] accepts sum-rules
               ∙ last
 
 -- ---- what an accepted reading says of the string
@@ -92,11 +92,11 @@ module _ (constant : ℕ) (s : List ℕ) (m n : ℕ) (read : reading.Accepted m 
   read-rules = accepted .0
 
   present : separatorMissing s ≡ false
-  present = accepted .0 .1 .1 .0
+  present = passed 3 (readingRules constant s) read-rules
 
   data-enough : 6 ≤ length (dataPart s)
   unfolding dataShort
-  data-enough = ltb-false (length (dataPart s)) 6 (accepted .0 .1 .1 .1 .1 .1 .1 .1 .0)
+  data-enough = ltb-false (length (dataPart s)) 6 (passed 8 (readingRules constant s) read-rules)
 
   pub read-prefix-length : m ≡ length (prefixPart s)
   read-prefix-length = let same : reading.Accepted (length (prefixPart s)) (length (payload s)) ≡ reading.Accepted m n = accepted .1 in cc

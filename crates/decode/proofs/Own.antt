@@ -11,7 +11,7 @@ use Rattle.laws.specs.Lists.{any}
 use Rattle.paper.specs.Charset.{isSeparator}
 use Rattle.answers.specs.Order.{NoneApplies}
 use Rattle.answers.specs.Reading.{stringRules, dataPart, prefixPart, separatorMissing}
-use Rattle.answers.proofs.Orders.{accepted-only}
+use Rattle.answers.proofs.Orders.{accepted-only, passed}
 use Rattle.answers.proofs.Split.{whole-string}
 use Rattle.decode.specs.Splitting.{partsOf, splitVerdict}
 use Rattle.decode.specs.declared.Parts.{Parts}
@@ -56,17 +56,20 @@ split-own s p given =
     record { rules = known .0; parts = cc }
 
 module _ (s : List ℕ) (p : Parts) (own : OwnParts s p) where
+  present : separatorMissing s ≡ false
+  present = passed 3 (stringRules s) (own .rules)
+
   pub parts-length : p .prefix + 1 + p .symbols ≡ length s
   unfolding partsOf
-  parts-length = rw (own .parts) (own-length s (own .rules .1 .1 .0))
+  parts-length = rw (own .parts) (own-length s present)
 
   pub parts-prefix : take (p .prefix) s ≡ prefixPart s
   unfolding partsOf
-  parts-prefix = rw (own .parts) (own-front s (own .rules .1 .1 .0))
+  parts-prefix = rw (own .parts) (own-front s present)
 
   pub parts-rest : drop (p .prefix + 1) s ≡ dataPart s
   unfolding partsOf
-  parts-rest = rw (own .parts) (own-back s (own .rules .1 .1 .0))
+  parts-rest = rw (own .parts) (own-back s present)
 
   pub parts-data : take (p .symbols) (drop (p .prefix + 1) s) ≡ dataPart s
   unfolding partsOf

@@ -7,6 +7,7 @@ use native.Mathlib.Omega.{arith}
 use lib.Dec.{eqb}
 use lib.ListN.{length, length-take}
 use borrow.Author.Tests.{lt-ltb, le-ltb, eq-eqb, ne-eqb, ltb-false, eqb-false}
+use Rattle.laws.proofs.Bools.{or-first}
 use Rattle.laws.proofs.Lists.{map-drop}
 use Rattle.paper.specs.Charset.{symbol}
 use Rattle.paper.specs.Checksum.{constantOf}
@@ -17,7 +18,7 @@ use Rattle.answers.specs.Reading.{stringRules, prefixPart, dataPart, payload, p
 use Rattle.answers.specs.declared.Address.{Address}
 use Rattle.answers.specs.declared.Address.the-variants as address
 use Rattle.answers.specs.declared.Verdict.the-variants as verdict
-use Rattle.answers.proofs.Orders.{accepted-only}
+use Rattle.answers.proofs.Orders.{accepted-only, passed, part-of}
 use Rattle.answers.proofs.Exact.{address-apart, address-injective}
 use Rattle.answers.proofs.Refusals.{verdict-apart, verdict-injective}
 use Rattle.checksum.specs.Parameters.{constantFor, checksumFor}
@@ -77,7 +78,7 @@ module _ (s : List ℕ) where
     known = accepted-only parted.Refused parted-injective (parted.Into (partsOf s)) (parted.Into p) (parted-apart p) before (sym given)
 
     pub address-own : OwnParts s p
-    address-own = let same : parted.Into (partsOf s) ≡ parted.Into p = known .1 in record { rules = known .0 .1; parts = cc }
+    address-own = let same : parted.Into (partsOf s) ≡ parted.Into p = known .1 in record { rules = part-of (stringRules s) before (known .0) refl; parts = cc }
 
     pub program-own : toBytes (map symbol (programIn (dataPart s))) ≡ programOf s
     unfolding programIn payloadIn programOf programSymbols payloadSymbols payload
@@ -137,16 +138,16 @@ module _ (prefix characters : List ℕ) where
       ∙ start
 
   module _ (v : ℕ) (first : version.Known v ≡ versionGiven characters) where
-    passed : NoneApplies (versionRules characters) × (version.Known (versionIn characters) ≡ version.Known v)
+    known-version : NoneApplies (versionRules characters) × (version.Known (versionIn characters) ≡ version.Known v)
     unfolding versionGiven
-    passed =
+    known-version =
         accepted-only version.Refused version-injective (version.Known (versionIn characters)) (version.Known v) (version-apart v) (versionRules characters) (sym first)
 
     version-is : v ≡ versionIn characters
-    version-is = let same : version.Known (versionIn characters) ≡ version.Known v = passed .1 in cc
+    version-is = let same : version.Known (versionIn characters) ≡ version.Known v = known-version .1 in cc
 
     after-version : Here afterVersion
-    after-version = rest-decides address.Refused (versionRules characters) afterVersion accepted (passed .0) ∙ start
+    after-version = rest-decides address.Refused (versionRules characters) afterVersion accepted (known-version .0) ∙ start
 
     -- ---- 8 and 9
 
@@ -169,8 +170,9 @@ module _ (prefix characters : List ℕ) where
         enough : 6 ≤ length characters
         enough =
             ltb-false (length characters) 6
+            (passed 8 (sumRules (constantOf (versionIn characters)) prefix characters)
             (accepted-only verdict.Refused verdict-injective verdict.Accepted verdict.Accepted verdict-apart
-            (sumRules (constantOf (versionIn characters)) prefix characters) (sym (checked ∙ sum-stage)) .0 .0)
+            (sumRules (constantOf (versionIn characters)) prefix characters) (sym (checked ∙ sum-stage)) .0))
 
         payload-length : length (payloadIn characters) ≡ length characters - 6
         unfolding payloadIn
@@ -225,9 +227,13 @@ module _ (prefix characters : List ℕ) where
 pub judged-enough : (prefix characters : List ℕ) (v n : ℕ) → address.Accepted v n ≡ judgement prefix characters → 7 ≤ length characters
 unfolding judgement payloadIn
 judged-enough prefix characters v n e =
-    let none : NoneApplies (versionRules characters ++ afterVersion prefix characters) =
+    let none : NoneApplies rules =
     accepted-only address.Refused address-injective (accepted prefix characters) (address.Accepted v n) (address-apart v n)
-    (versionRules characters ++ afterVersion prefix characters) (sym e) .0 in
-    let six : 6 ≤ length characters = ltb-false (length characters) 6 (none .1 .1 .0) in
-    let some : length (payloadIn characters) ≡ 0 → ⊥ = eqb-false (length (payloadIn characters)) 0 (none .1 .1 .1 .1 .0) in
+    rules (sym e) .0 in
+    let six : 6 ≤ length characters = ltb-false (length characters) 6 (passed 8 rules none) in
+    let some : length (payloadIn characters) ≡ 0 → ⊥ = eqb-false (length (payloadIn characters)) 0
+    (or-first (eqb (length (payloadIn characters)) 0) (eqb (length characters) 0) (passed 11 rules none)) in
     omega (arith, some, length-take (length characters - 6) characters)
+  where
+    rules : List Rule
+    rules = versionRules characters ++ afterVersion prefix characters

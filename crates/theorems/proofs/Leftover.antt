@@ -6,15 +6,15 @@ use mathlib.Core.List.{List, [], _∷_}
 use Prim.Native.Nat.{ℕ, zero, suc, _+_, _*_, _/_, _%_, _<_}
 use native.Mathlib.Nat.{mul-add-mod-self-right}
 use native.Mathlib.Omega.{arith}
-use lib.ListN.{length, take}
+use lib.ListN.{length}
 use borrow.Author.Tests.{ltb-true, lt-ltb}
 use Rattle.paper.specs.Bits.{padding}
-use Rattle.answers.specs.Order.{_gives_, NoneApplies}
+use Rattle.answers.specs.Order.{_gives_, NoneApplies, rulesBefore}
 use Rattle.answers.specs.Rules.{paddingLong, paddingNotZero, paddingVerdict}
 use Rattle.answers.specs.Reading.{programSymbols, addressRules, addressVerdict}
 use Rattle.answers.specs.declared.Verdict.the-variants as verdict
 use Rattle.answers.specs.declared.Address.the-variants as address
-use Rattle.answers.proofs.Orders.{exactly}
+use Rattle.answers.proofs.Orders.{exactly-gives}
 use Rattle.answers.proofs.Refusals.{verdict-apart, verdict-injective, address-13}
 use Rattle.iter.proofs.Lengths.{padding-length}
 use Rattle.theorems.specs.Leftover.{LeavesMany}
@@ -70,12 +70,12 @@ module _ (symbols : List ℕ) where
   unfolding paddingVerdict
   padding-13 =
       let first =
-      exactly verdict.Refused verdict-injective verdict.Accepted verdict-apart 13 0 (paddingLong symbols gives 13 ∷ paddingNotZero symbols gives 14 ∷ []) tt in
+      exactly-gives verdict.Refused verdict-injective verdict.Accepted verdict-apart 13 (paddingLong symbols gives 13 ∷ paddingNotZero symbols gives 14 ∷ []) tt in
       (λ e. many-exactly .0 (first .0 e .1), λ many. first .1 (tt, many-exactly .1 many))
 
 -- of an address: 13 exactly for such a count of program symbols, where no rule before it applies
 pub address-13-exactly : (s : List ℕ)
-    → (addressVerdict s ≡ address.Refused 13) ↔ (NoneApplies (take 12 (addressRules s)) × LeavesMany (length (programSymbols s)))
+    → (addressVerdict s ≡ address.Refused 13) ↔ (NoneApplies (rulesBefore 13 (addressRules s)) × LeavesMany (length (programSymbols s)))
 address-13-exactly s = (
   (λ e. let first = address-13 s .0 e in (first .0, many-exactly (programSymbols s) .0 (first .1))),
   (λ x. address-13 s .1 (x .0, many-exactly (programSymbols s) .1 (x .1))),

@@ -2,57 +2,61 @@
 -- and of the papers.
 use mathlib.Core.Path.{_≡_, refl}
 use mathlib.Core.Logic.{_↔_}
-use mathlib.Core.List.{List, [], _∷_}
+use mathlib.Core.List.{List, [], _∷_, _++_}
 use Prim.Native.Nat.{ℕ}
 use lib.Dec.{T}
 use lib.ListN.{length}
 use Rattle.laws.specs.Text.{bytes}
 use Rattle.paper.specs.Checksum.{bech32, bech32m}
-use Rattle.answers.specs.Order.{FirstApplies}
-use Rattle.answers.specs.Reading.{payloadSymbols}
+use Rattle.answers.specs.Order.{numbersOf, FirstGives}
+use Rattle.answers.specs.Reading.{payloadSymbols, readingRules}
 use Rattle.answers.specs.declared.Written.the-variants as written
 use Rattle.answers.proofs.Computing.{computing}
-use Rattle.answers.proofs.Orders.{givenNowhere, givenAt, nowhere, exactly}
+use Rattle.answers.proofs.Orders.{givenNowhere, givenOnce, nowhere, exactly-gives}
 use Rattle.answers.proofs.Rooms.{written-apart, written-injective}
 use Rattle.decode.specs.Symbols.{readingSymbolsRules, readSymbolsVerdict}
 
 module _ (constant : ℕ) (s : List ℕ) (room : ℕ) where
-  reading-symbols-refused : (n i : ℕ) → T (givenAt n i (readingSymbolsRules constant s room))
-      → (readSymbolsVerdict constant s room ≡ written.Refused n) ↔ FirstApplies i (readingSymbolsRules constant s room)
+  -- document 01's order, by number
+  pub reading-symbols-order : numbersOf (readingSymbolsRules constant s room) ≡ numbersOf (readingRules constant s) ++ 17 ∷ []
+  reading-symbols-order = refl
+
+  reading-symbols-refused : (n : ℕ) → T (givenOnce n (readingSymbolsRules constant s room))
+      → (readSymbolsVerdict constant s room ≡ written.Refused n) ↔ FirstGives n (readingSymbolsRules constant s room)
   unfolding readSymbolsVerdict
-  reading-symbols-refused n i t =
-      exactly written.Refused written-injective (written.Accepted (length (payloadSymbols s))) (written-apart (length (payloadSymbols s))) n i
+  reading-symbols-refused n t =
+      exactly-gives written.Refused written-injective (written.Accepted (length (payloadSymbols s))) (written-apart (length (payloadSymbols s))) n
       (readingSymbolsRules constant s room) t
 
-  pub reading-symbols-1 : (readSymbolsVerdict constant s room ≡ written.Refused 1) ↔ FirstApplies 0 (readingSymbolsRules constant s room)
-  reading-symbols-1 = reading-symbols-refused 1 0 tt
+  pub reading-symbols-1 : (readSymbolsVerdict constant s room ≡ written.Refused 1) ↔ FirstGives 1 (readingSymbolsRules constant s room)
+  reading-symbols-1 = reading-symbols-refused 1 tt
 
-  pub reading-symbols-2 : (readSymbolsVerdict constant s room ≡ written.Refused 2) ↔ FirstApplies 1 (readingSymbolsRules constant s room)
-  reading-symbols-2 = reading-symbols-refused 2 1 tt
+  pub reading-symbols-2 : (readSymbolsVerdict constant s room ≡ written.Refused 2) ↔ FirstGives 2 (readingSymbolsRules constant s room)
+  reading-symbols-2 = reading-symbols-refused 2 tt
 
-  pub reading-symbols-3 : (readSymbolsVerdict constant s room ≡ written.Refused 3) ↔ FirstApplies 2 (readingSymbolsRules constant s room)
-  reading-symbols-3 = reading-symbols-refused 3 2 tt
+  pub reading-symbols-3 : (readSymbolsVerdict constant s room ≡ written.Refused 3) ↔ FirstGives 3 (readingSymbolsRules constant s room)
+  reading-symbols-3 = reading-symbols-refused 3 tt
 
-  pub reading-symbols-4 : (readSymbolsVerdict constant s room ≡ written.Refused 4) ↔ FirstApplies 3 (readingSymbolsRules constant s room)
-  reading-symbols-4 = reading-symbols-refused 4 3 tt
+  pub reading-symbols-4 : (readSymbolsVerdict constant s room ≡ written.Refused 4) ↔ FirstGives 4 (readingSymbolsRules constant s room)
+  reading-symbols-4 = reading-symbols-refused 4 tt
 
-  pub reading-symbols-5 : (readSymbolsVerdict constant s room ≡ written.Refused 5) ↔ FirstApplies 4 (readingSymbolsRules constant s room)
-  reading-symbols-5 = reading-symbols-refused 5 4 tt
+  pub reading-symbols-5 : (readSymbolsVerdict constant s room ≡ written.Refused 5) ↔ FirstGives 5 (readingSymbolsRules constant s room)
+  reading-symbols-5 = reading-symbols-refused 5 tt
 
-  pub reading-symbols-6 : (readSymbolsVerdict constant s room ≡ written.Refused 6) ↔ FirstApplies 5 (readingSymbolsRules constant s room)
-  reading-symbols-6 = reading-symbols-refused 6 5 tt
+  pub reading-symbols-6 : (readSymbolsVerdict constant s room ≡ written.Refused 6) ↔ FirstGives 6 (readingSymbolsRules constant s room)
+  reading-symbols-6 = reading-symbols-refused 6 tt
 
-  pub reading-symbols-7 : (readSymbolsVerdict constant s room ≡ written.Refused 7) ↔ FirstApplies 6 (readingSymbolsRules constant s room)
-  reading-symbols-7 = reading-symbols-refused 7 6 tt
+  pub reading-symbols-7 : (readSymbolsVerdict constant s room ≡ written.Refused 7) ↔ FirstGives 7 (readingSymbolsRules constant s room)
+  reading-symbols-7 = reading-symbols-refused 7 tt
 
-  pub reading-symbols-8 : (readSymbolsVerdict constant s room ≡ written.Refused 8) ↔ FirstApplies 7 (readingSymbolsRules constant s room)
-  reading-symbols-8 = reading-symbols-refused 8 7 tt
+  pub reading-symbols-8 : (readSymbolsVerdict constant s room ≡ written.Refused 8) ↔ FirstGives 8 (readingSymbolsRules constant s room)
+  reading-symbols-8 = reading-symbols-refused 8 tt
 
-  pub reading-symbols-9 : (readSymbolsVerdict constant s room ≡ written.Refused 9) ↔ FirstApplies 8 (readingSymbolsRules constant s room)
-  reading-symbols-9 = reading-symbols-refused 9 8 tt
+  pub reading-symbols-9 : (readSymbolsVerdict constant s room ≡ written.Refused 9) ↔ FirstGives 9 (readingSymbolsRules constant s room)
+  reading-symbols-9 = reading-symbols-refused 9 tt
 
-  pub reading-symbols-17 : (readSymbolsVerdict constant s room ≡ written.Refused 17) ↔ FirstApplies 9 (readingSymbolsRules constant s room)
-  reading-symbols-17 = reading-symbols-refused 17 9 tt
+  pub reading-symbols-17 : (readSymbolsVerdict constant s room ≡ written.Refused 17) ↔ FirstGives 17 (readingSymbolsRules constant s room)
+  reading-symbols-17 = reading-symbols-refused 17 tt
 
   -- and no other number comes
   pub reading-symbols-never : (n : ℕ) → T (givenNowhere n (readingSymbolsRules constant s room)) → readSymbolsVerdict constant s room ≡ written.Refused n → ⊥

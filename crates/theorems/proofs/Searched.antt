@@ -7,9 +7,10 @@ use Prim.Native.Nat.{ℕ, _≤_}
 use native.Mathlib.Omega.{arith}
 use lib.ListN.{length, length-append}
 use borrow.Author.Tests.{eqb-false}
-use Rattle.answers.specs.Reading.{dataPart, prefixPart, prefixEmpty, readVerdict}
+use Rattle.answers.specs.Reading.{dataPart, prefixPart, prefixEmpty, readingRules, readVerdict}
 use Rattle.answers.specs.declared.Reading.{Reading}
 use Rattle.answers.specs.declared.Reading.the-variants as reading
+use Rattle.answers.proofs.Orders.{passed}
 use Rattle.checksum.specs.Parameters.{constantFor}
 use Rattle.checksum.specs.declared.Checksum.{Checksum}
 use Rattle.decode.specs.Promises.{WasRead}
@@ -38,7 +39,7 @@ part-of-90 : {w : ℕ} {s t : List ℕ} (constant m n : ℕ) → readVerdict con
     → length (dataPart s) ≤ 88
 unfolding prefixEmpty
 part-of-90 {s = s} constant m n e short c =
-    let some : length (prefixPart s) ≡ 0 → ⊥ = eqb-false (length (prefixPart s)) 0 (reading-rules constant s m n e .1 .1 .1 .0) in
+    let some : length (prefixPart s) ≡ 0 → ⊥ = eqb-false (length (prefixPart s)) 0 (passed 4 (readingRules constant s) (reading-rules constant s m n e)) in
     let whole : length s ≡ length (c .prefix ++ 49 ∷ c .part) = ap length (c .before) in
     omega (arith, some, length-append (c .prefix) (49 ∷ c .part), ap length (part-before c), ap length (prefix-before c))
 

@@ -1,7 +1,7 @@
 -- A changed string is read in the same parts, case aside, and every rule but those of case and checksum says of it what it said of the string.
 use mathlib.Core.Path.{_≡_, refl, sym, ap, ap₂, _∙_}
 use mathlib.Core.Bool.{true, false}
-use mathlib.Core.List.{List, _∷_, _++_, map}
+use mathlib.Core.List.{List, [], _∷_, _++_, map}
 use Prim.Native.Nat.{ℕ, suc, _+_, _≤_}
 use native.Mathlib.Omega.{arith}
 use lib.Dec.{eqb}
@@ -15,6 +15,7 @@ use Rattle.paper.specs.Checksum.{polymod, expand, residue}
 use Rattle.paper.proofs.Symbols.{symbols-of}
 use Rattle.answers.specs.Order.{NoneApplies}
 use Rattle.answers.specs.Reading.{dataPart, prefixPart, characterOutside, mixedCase, separatorMissing, prefixEmpty, prefixLong, prefixByteOutside, longerThan, dataShort, checksumWrong, stringRules}
+use Rattle.answers.proofs.Orders.{passed, _passes_, none-applies}
 use Rattle.answers.proofs.Split.{separator-seen, dataPart-of, prefixPart-of}
 use Rattle.detection.specs.Patterns.{dist, Near, Clean}
 use Rattle.detection.proofs.Detection.{detects-after}
@@ -75,19 +76,16 @@ module _ {w : ℕ} {s t : List ℕ} (c : Changed w s t) where
   -- the rules that both orders ask first
   pub string-rules-after : NoneApplies (stringRules s) → mixedCase t ≡ false → NoneApplies (stringRules t)
   unfolding separatorMissing prefixEmpty prefixLong prefixByteOutside
-  string-rules-after none one-case = (
-    characters-after,
-    (
-      one-case,
-      (
-        rw (c .after, separator-seen (c .copied) (c .other)) refl,
-        (
-          rw same-prefix-length (none .1 .1 .1 .0),
-          (rw same-prefix-length (none .1 .1 .1 .1 .0), (rw same-printable (none .1 .1 .1 .1 .1 .0), tt)),
-        ),
-      ),
-    ),
-  )
+  string-rules-after none one-case =
+      none-applies (stringRules t)
+      (1 passes characters-after
+      ∷ 2 passes one-case
+      ∷ 3 passes (rw (c .after, separator-seen (c .copied) (c .other)) refl)
+      ∷ 4 passes (rw same-prefix-length (passed 4 (stringRules s) none))
+      ∷ 5 passes (rw same-prefix-length (passed 5 (stringRules s) none))
+      ∷ 6 passes (rw same-printable (passed 6 (stringRules s) none))
+      ∷ [])
+      tt
 
   pub length-after : (limit : ℕ) → longerThan limit s ≡ false → longerThan limit t ≡ false
   unfolding longerThan
