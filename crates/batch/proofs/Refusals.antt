@@ -20,10 +20,9 @@ use Rattle.batch.proofs.Entries.{many-refused, reaches-outside}
 
 pub batch-19 : (entries : List Entry) → (batchVerdict entries ≡ verdict.Refused 19) ↔ (32 < length entries)
 unfolding batchVerdict
-batch-19 entries = (
-  λ e. ltb-true 32 (length entries) (refused-first verdict.Refused verdict-injective verdict.Accepted verdict-apart 19 0 (ltb 32 (length entries) gives 19 ∷ []) tt e .1),
-  many-refused entries,
-)
+batch-19 entries =
+    let first = refused-first verdict.Refused verdict-injective verdict.Accepted verdict-apart 19 0 (ltb 32 (length entries) gives 19 ∷ []) tt in
+    (λ e. ltb-true 32 (length entries) (first e .1), many-refused entries)
 
 pub entry-20 : (buffer : List ℕ) (e : Entry) → (entryVerdict buffer e ≡ address.Refused 20) ↔ (length buffer < e .start + e .len)
 unfolding entryVerdict
