@@ -1,4 +1,3 @@
-pub mod Classes
 pub mod Scanning
 pub mod Splits
 pub mod Asked

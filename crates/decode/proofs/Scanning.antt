@@ -13,9 +13,10 @@ use Rattle.laws.proofs.Bools.{or-first, or-second}
 use Rattle.paper.specs.Charset.{isSeparator, isPrintable}
 use Rattle.answers.specs.Reading.{dataPart, separatorMissing}
 use Rattle.answers.proofs.Split.{separator-seen, dataPart-of}
-use Rattle.decode.specs.Scan.{Joined, DataScanned, PrefixScanned}
+use Rattle.gf32.specs.Classes.{Joined}
 use Rattle.gf32.specs.Promises.{ClassesGiven}
-use Rattle.decode.proofs.Classes.{joined-none, joined-more}
+use Rattle.gf32.proofs.ClassLaws.{joined-none, joined-more}
+use Rattle.decode.specs.Scan.{DataScanned, PrefixScanned}
 
 pub drop-back : (s : List ℕ) (i : ℕ) → 0 < i → i ≤ length s → drop (i - 1) s ≡ getD s (i - 1) 0 ∷ drop i s
 drop-back s i positive fits =

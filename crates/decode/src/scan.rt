@@ -1,8 +1,6 @@
 // The characters of a string, each looked at once and from the end: charset, case and the last separator.
 ghost use mathlib.Core.Path.{_≡_};
-ghost use mathlib.Core.Bool.{_&&_};
-ghost use Prim.Native.Nat.{_-_, _/_, _%_, _≤_};
-ghost use lib.Dec.{eqb};
+ghost use Prim.Native.Nat.{_-_, _≤_};
 ghost use lib.ListN.{length, take};
 ghost use Rattle.gf32.specs.Promises.{ClassesGiven};
 ghost use Rattle.decode.specs.Scan.{DataScanned, PrefixScanned};
@@ -52,19 +50,6 @@ pub(crate) fn scan_prefix(table: &[u8; 256], prefix: &[u8]) -> Front
         i -= 1;
     }
     Front { classes, printable }
-}
-
-// gf32's bit for a byte outside the charset is 128; those for upper and lower case are 32 and 64.
-pub(crate) fn has_outside(classes: u8) -> bool
-    ensures { λ r. ⌜ r ≡ eqb (classes / 128 % 2) 1 ⌝ }
-{
-    classes / 128 % 2 == 1
-}
-
-pub(crate) fn has_both_cases(classes: u8) -> bool
-    ensures { λ r. ⌜ r ≡ eqb (classes / 32 % 2) 1 && eqb (classes / 64 % 2) 1 ⌝ }
-{
-    (classes / 32 % 2 == 1) & (classes / 64 % 2 == 1)
 }
 
 // What stands before the separator of a data part that starts here.

@@ -3,7 +3,7 @@ use answers::Written;
 use numbers::ROOM_SMALL;
 ghost use mathlib.Core.Path.{_≡_};
 ghost use mathlib.Core.List.{_++_, map};
-ghost use Prim.Native.Nat.{_+_, _*_, _/_, _%_, _≤_};
+ghost use Prim.Native.Nat.{_≤_};
 ghost use lib.ListN.{length, drop};
 ghost use Rattle.paper.specs.Charset.{symbol};
 ghost use Rattle.iter.specs.Writing.{Wrote};
@@ -25,14 +25,7 @@ fn fill_symbols(characters: &[u8], out: &mut [u8])
     let table = gf32::classes();
     let mut i = 0;
     while i < characters.len() {
-        out[i] = symbol_in(table[characters[i] as usize]);
+        out[i] = gf32::class_symbol(table[characters[i] as usize]);
         i += 1;
     }
-}
-
-// The symbol in a class: its low five bits, and 32 for a byte outside the charset.
-fn symbol_in(class: u8) -> u8
-    ensures { λ r. ⌜ r ≡ class % 32 + class / 128 * 32 ⌝ }
-{
-    class % 32 + class / 128 * 32
 }

@@ -14,7 +14,7 @@ use Rattle.answers.specs.declared.Written.the-variants as written
 use Rattle.hrp.specs.Compare.{sameCaseAside, orderCaseAside}
 use Rattle.hrp.specs.Networks.{networkOf, segwitPrefix}
 use Rattle.hrp.specs.Numbers.{valueOfNetwork, valueOfOrder}
-use Rattle.hrp.specs.Promises.{Checked, Lowered, Folded, Compared, Matched, NetworkFound, SegwitPrefixAsked}
+use Rattle.hrp.specs.Promises.{Checked, Folded, Compared, Matched, NetworkFound, SegwitPrefixAsked}
 use Rattle.hrp.specs.declared.Network.the-variants.{Mainnet, Testnet, Regtest, Unknown}
 use Rattle.hrp.specs.declared.Order.the-variants.{Less, Equal, Greater}
 
@@ -46,17 +46,6 @@ not-a-later-byte p = let e : _≡_ {A = ℕ} 6 2 = ap numberOfVerdict p in omega
 pub not-a-later-letter : Checked (bytes " aB") (verdict.Refused 2) → ⊥
 unfolding prefixVerdict offence
 not-a-later-letter p = let e : _≡_ {A = ℕ} 2 6 = ap numberOfVerdict p in omega arith
-
--- ---- hrp::lower: Z left as it is, the byte after it folded, the letter before
-
-pub not-Z : Lowered 90 90 → ⊥
-not-Z p = let e : _≡_ {A = ℕ} 90 122 = p in omega arith
-
-pub not-after-Z : Lowered 91 123 → ⊥
-not-after-Z p = let e : _≡_ {A = ℕ} 123 91 = p in omega arith
-
-pub not-the-letter-before : Lowered 66 97 → ⊥
-not-the-letter-before p = let e : _≡_ {A = ℕ} 97 98 = p in omega arith
 
 -- ---- hrp::to_lower: 17 where the room is just enough, the room as what was written, capitals kept
 

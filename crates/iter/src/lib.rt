@@ -11,8 +11,7 @@ ghost use Prim.Native.Nat.{ℕ, _+_, _-_, _*_, _/_, _%_, _^_, _≤_, _<_};
 ghost use lib.ListN.{length, getD, drop};
 ghost use Rattle.paper.specs.Bits.{toBytes, toSymbols};
 ghost use Rattle.paper.specs.Charset.{symbol};
-ghost use Rattle.laws.specs.Lists.{table};
-ghost use Rattle.gf32.specs.Bytes.{classOf};
+ghost use Rattle.gf32.specs.Promises.{ClassesGiven};
 ghost use Rattle.answers.specs.Rules.{paddingVerdict};
 ghost use Rattle.iter.specs.Promises.{SymbolsCounted, BytesCounted, SymbolsWritten, BytesWritten, CharactersWritten, PaddingJudged, CharactersJudged, SymbolsBegun, SymbolGiven, BytesBegun, ByteGiven};
 
@@ -112,7 +111,7 @@ pub fn padding_of_characters(characters: &[u8]) -> Verdict
         return Verdict::Accepted;
     }
     let classes = gf32::classes();
-    padding_after(n, nth_class(&classes, characters, n - 1))
+    padding_after(n, nth_of(&classes, characters, n - 1))
 }
 
 impl BytesToSymbols {
@@ -227,15 +226,15 @@ fn nth_byte(symbols: &[u8], at: usize) -> u8
 }
 
 fn nth_byte_of(classes: &[u8; 256], characters: &[u8], at: usize) -> u8
-    requires { ⌜ (now classes ≡ table classOf 256) × (at < length (toBytes (map symbol (now characters)))) ⌝ }
+    requires { ⌜ ClassesGiven (now classes) × (at < length (toBytes (map symbol (now characters)))) ⌝ }
     ensures { λ r. ⌜ r ≡ getD (toBytes (map symbol (now (characters .entry)))) at 0 ⌝ }
 {
     let first = at / 5 * 8 + at % 5 * 8 / 5;
     let offset = at % 5 * 8 % 5;
     byte_of(
-        nth_class(classes, characters, first),
-        nth_class(classes, characters, first + 1),
-        nth_class(classes, characters, first + 2),
+        nth_of(classes, characters, first),
+        nth_of(classes, characters, first + 1),
+        nth_of(classes, characters, first + 2),
         offset,
     )
 }
@@ -259,13 +258,13 @@ fn nth(list: &[u8], at: usize) -> u8
     0
 }
 
-// The low five bits of a class are the symbol.
-fn nth_class(classes: &[u8; 256], characters: &[u8], at: usize) -> u8
-    requires { ⌜ now classes ≡ table classOf 256 ⌝ }
-    ensures { λ r. ⌜ r % 32 ≡ getD (map symbol (now (characters .entry))) at 0 % 32 ⌝ }
+// The same for the symbols of characters.
+fn nth_of(classes: &[u8; 256], characters: &[u8], at: usize) -> u8
+    requires { ⌜ ClassesGiven (now classes) ⌝ }
+    ensures { λ r. ⌜ r ≡ getD (map symbol (now (characters .entry))) at 0 ⌝ }
 {
     if at < characters.len() {
-        return classes[characters[at] as usize];
+        return gf32::class_symbol(classes[characters[at] as usize]);
     }
     0
 }

@@ -1,6 +1,7 @@
 -- The padding of characters: that of their symbols.
-use mathlib.Core.Path.{sym, _∙_}
+use mathlib.Core.Path.{sym, ap, _∙_}
 use mathlib.Core.List.{map}
+use Prim.Native.Nat.{ℕ, _%_}
 use borrow.Author.Needs.{needs}
 use lib.ListN.{length-map}
 use Rattle.paper.specs.Charset.{symbol}
@@ -16,11 +17,11 @@ returns c =
 classes-requires : tie.Need-classes-requires
 classes-requires c κs = search needs
 
-sub-nth-class : tie.Need-sub-nth-class
-sub-nth-class c = search needs
+sub-nth-of : tie.Need-sub-nth-of
+sub-nth-of c = search needs
 
-nth-class-requires : tie.Need-nth-class-requires
-nth-class-requires c κs = search needs
+nth-of-requires : tie.Need-nth-of-requires
+nth-of-requires c κs = search needs
 
 padding-after-requires : tie.Need-padding-after-requires
 padding-after-requires c κs = search needs
@@ -28,7 +29,7 @@ padding-after-requires c κs = search needs
 returns-2 : tie.Need-returns-2
 returns-2 c =
     let characters = c .before .before .before .before .before .before .args .characters .now in
-    c .padding-after .ensures (map symbol characters) (length-map characters symbol) (sym (c .before .nth-class .ensures))
+    c .padding-after .ensures (map symbol characters) (length-map characters symbol) (ap (λ (v : ℕ). v % 32) (sym (c .before .nth-of .ensures)))
 
 pub padding-of-characters-spec : {M : Type 1} → statement M
 padding-of-characters-spec =
@@ -36,7 +37,7 @@ padding-of-characters-spec =
     (tie.spec
     returns
     classes-requires
-    sub-nth-class
-    nth-class-requires
+    sub-nth-of
+    nth-of-requires
     padding-after-requires
     returns-2)

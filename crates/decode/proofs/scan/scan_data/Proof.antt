@@ -7,7 +7,7 @@ use borrow.Author.Needs.{needs}
 use lib.ListN.{length, drop}
 use Rattle.laws.specs.Lists.{any}
 use Rattle.paper.specs.Charset.{isSeparator}
-use Rattle.decode.specs.Scan.{Joined}
+use Rattle.gf32.specs.Classes.{Joined}
 use Rattle.decode.proofs.Scanning.{nothing-yet, joined-back, none-more, stopped, ended}
 use Rattle.decode.proofs.scan.scan_data.Statement.{statement}
 use Rattle.decode.proofs.scan.scan_data.Tie as tie

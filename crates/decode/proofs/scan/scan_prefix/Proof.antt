@@ -6,7 +6,7 @@ use borrow.Author.Needs.{needs}
 use lib.ListN.{length, drop}
 use Rattle.laws.specs.Lists.{all}
 use Rattle.paper.specs.Charset.{isPrintable}
-use Rattle.decode.specs.Scan.{Joined}
+use Rattle.gf32.specs.Classes.{Joined}
 use Rattle.decode.proofs.Scanning.{nothing-yet, joined-back, printable-yet, printable-back, whole-prefix}
 use Rattle.decode.proofs.scan.scan_prefix.Statement.{statement}
 use Rattle.decode.proofs.scan.scan_prefix.Tie as tie

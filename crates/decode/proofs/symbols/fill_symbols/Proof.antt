@@ -7,7 +7,7 @@ use borrow.Author.Needs.{needs}
 use lib.ListN.{length, getD, length-set}
 use Rattle.laws.proofs.Front.{front, map-more, map-all}
 use Rattle.paper.specs.Charset.{symbol}
-use Rattle.checksum.proofs.Characters.{class-read}
+use Rattle.gf32.proofs.ClassLaws.{class-read}
 use Rattle.decode.proofs.symbols.fill_symbols.Statement.{statement}
 use Rattle.decode.proofs.symbols.fill_symbols.Tie as tie
 
@@ -23,17 +23,17 @@ classes-requires c κs = search needs
 loop-holds : tie.Need-loop-holds Inv-loop μ-loop
 loop-holds c = (search needs, refl, refl)
 
-shared-slice-read-symbol-in : tie.Need-shared-slice-read-symbol-in Inv-loop μ-loop
-shared-slice-read-symbol-in c = search needs
+shared-slice-read-class-symbol : tie.Need-shared-slice-read-class-symbol Inv-loop μ-loop
+shared-slice-read-class-symbol c = search needs
 
-cast-symbol-in : tie.Need-cast-symbol-in Inv-loop μ-loop
-cast-symbol-in c = record { fits = omega (arith, c .shared-slice-known2 .given (c .before .before .loop .i)) }
+cast-class-symbol : tie.Need-cast-class-symbol Inv-loop μ-loop
+cast-class-symbol c = record { fits = omega (arith, c .shared-slice-known2 .given (c .before .before .loop .i)) }
 
-array-read-symbol-in : tie.Need-array-read-symbol-in Inv-loop μ-loop
-array-read-symbol-in c = omega (arith, c .shared-slice-known2 .given (c .before .before .loop .i))
+array-read-class-symbol : tie.Need-array-read-class-symbol Inv-loop μ-loop
+array-read-class-symbol c = omega (arith, c .shared-slice-known2 .given (c .before .before .loop .i))
 
-symbol-in-requires : tie.Need-symbol-in-requires Inv-loop μ-loop
-symbol-in-requires c κs = search needs
+class-symbol-requires : tie.Need-class-symbol-requires Inv-loop μ-loop
+class-symbol-requires c κs = search needs
 
 slice-write-out : tie.Need-slice-write-out Inv-loop μ-loop
 slice-write-out c = search needs
@@ -69,10 +69,10 @@ fill-symbols-spec =
     μ-loop
     classes-requires
     loop-holds
-    shared-slice-read-symbol-in
-    cast-symbol-in
-    array-read-symbol-in
-    symbol-in-requires
+    shared-slice-read-class-symbol
+    cast-class-symbol
+    array-read-class-symbol
+    class-symbol-requires
     slice-write-out
     add-i
     loop-less
