@@ -1,4 +1,6 @@
 // Many addresses in one buffer, each judged for itself: document 01's module 11, the batch.
+#![tactic(auto)]
+
 ghost use Rattle.std.specs.Prelude.{◌≡◌};
 ghost use Rattle.batch.specs.Batch.{entry_verdict, judged_as};
 ghost use Rattle.batch.specs.Promises.{EntryJudged, BatchJudged};
@@ -11,7 +13,7 @@ pub const MAX_ENTRIES: usize = 32;
 // One address of a batch: where it stands in the buffer; its verdict, 0 or a number of `numbers`, and with 0 its version and its program's length. C has it
 // with the same layout.
 #[repr(C)]
-#[derive(Drop)]
+#[derive(Clone, Copy)]
 pub struct Entry {
     pub start: usize,
     pub len: usize,

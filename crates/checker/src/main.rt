@@ -1,5 +1,7 @@
 // The command-line checker: one address a line from standard input, its number in decimal a line to standard output. What is answered is the
 // crate lines, which is proved; here are only the calls that read and write.
+#![tactic(auto)]
+
 ghost use Rattle.std.specs.Prelude.{◌≤◌, length};
 
 use answers::Written;
@@ -7,7 +9,7 @@ use libc::{STDERR_FILENO, STDIN_FILENO, STDOUT_FILENO};
 use lines::{Fed, Line};
 
 // What a piece of the input leaves behind: the count of kept bytes, and whether all its answers were written.
-#[derive(Drop)]
+#[derive(Clone, Copy)]
 struct Stand {
     len: usize,
     written: bool,

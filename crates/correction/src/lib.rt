@@ -1,5 +1,7 @@
 // The place of one changed symbol: document 01's module 10. BIP-173 has a place suggested and never what belongs there, so only the place
 // comes out. No list of changes and no shift register: one change is all that is looked for.
+#![tactic(auto)]
+
 ghost use Rattle.std.specs.Prelude.{◌≡◌, [], ◌∷◌, map, ◌+◌, ◌^◌, ◌≤◌, ◌<◌, length, take, drop};
 ghost use Rattle.paper.specs.Charset.{symbol};
 ghost use Rattle.paper.specs.Checksum.{residue};
@@ -25,7 +27,7 @@ const ROOT_25: u32 = 878;
 const ROOT_26: u32 = 966;
 
 // The place of one changed symbol, counted from the end.
-#[derive(Drop)]
+#[derive(Clone, Copy)]
 pub enum Located {
     At(usize),
     Refused(u8),

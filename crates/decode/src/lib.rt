@@ -1,5 +1,7 @@
 // Reading strings and addresses: document 01's module 9, first half. A string is looked at where it lies; what is handed back of it is a
 // part of the caller's slice.
+#![tactic(auto)]
+
 mod scan;
 mod symbols;
 
@@ -22,21 +24,21 @@ use scan::{part_before, scan_data, scan_prefix};
 use symbols::put_symbols;
 
 // A string taken apart at its last separator: how long the prefix is, and how many characters stand after the separator.
-#[derive(Drop)]
+#[derive(Clone, Copy)]
 pub struct Parts {
     pub prefix: usize,
     pub symbols: usize,
 }
 
 // What taking a string apart gives.
-#[derive(Drop)]
+#[derive(Clone, Copy)]
 pub enum Parted {
     Into(Parts),
     Refused(u8),
 }
 
 // The witness version of an address.
-#[derive(Drop)]
+#[derive(Clone, Copy)]
 enum Version {
     Known(u8),
     Refused(u8),

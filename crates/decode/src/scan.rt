@@ -6,14 +6,14 @@ ghost use Rattle.decode.specs.Scan.{DataScanned, PrefixScanned};
 const SEPARATOR: u8 = b'1';
 
 // The data part: where it starts, 0 where there is no separator; and the classes of its characters, joined bit by bit.
-#[derive(Drop)]
+#[derive(Clone, Copy)]
 pub(crate) struct Tail {
     pub(crate) start: usize,
     pub(crate) classes: u8,
 }
 
 // The prefix: the classes of its bytes, joined, and whether each of them is 33 to 126.
-#[derive(Drop)]
+#[derive(Clone, Copy)]
 pub(crate) struct Front {
     pub(crate) classes: u8,
     pub(crate) printable: bool,

@@ -1,4 +1,6 @@
 // Writing strings and addresses, document 01's module 9. A writer settles its answer before it touches the buffer; it writes lower case.
+#![tactic(auto)]
+
 mod fill;
 mod rules;
 

@@ -4,6 +4,8 @@
 //
 // What is proved of a function with `apart` in its name is proved for results and buffers that lie apart from all else that is given, as the
 // language has it. Callers do not know that: c/pennywax.c, which they call, asks pennywax_ranges_overlap first.
+#![tactic(auto)]
+
 ghost use Rattle.std.specs.Prelude.{◌≡◌, ◌+◌, ltb};
 ghost use Rattle.paper.specs.Bits.{to_symbols};
 ghost use Rattle.face.specs.Codes.{coded_read, coded_locate, CodedBytes, CodedWritten};

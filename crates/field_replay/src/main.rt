@@ -1,5 +1,7 @@
 // GF(1024) and its polynomials on fixed inputs, a line each: the inputs and the answers. What must come is in the file stdout, which the
 // Rust wrote (tests/oracle/FIELDS.md).
+#![tactic(auto)]
+
 ghost use Rattle.std.specs.Prelude.{◌<◌, ◌≤◌};
 
 use fieldvec::{Changed, Element, FieldVec};

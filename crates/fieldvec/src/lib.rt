@@ -1,6 +1,8 @@
 // A short list of elements of GF(1024): a fixed array with a count. An element is worked with as a u32 and stored as a u16, by its
 // remainder modulo the field's order, and that loses nothing of it (proofs/Stored.antt). A symbol of GF(32) is the same number in
 // GF(1024), so one list serves both.
+#![tactic(auto)]
+
 ghost use Rattle.std.specs.Prelude.{◌≡◌, ◌≤◌, [], map, reverse, length};
 ghost use Rattle.laws.specs.Lists.{table};
 ghost use Rattle.gf32_ext.specs.Field.{power};
@@ -15,21 +17,21 @@ pub const CAPACITY: usize = 7;
 
 // The first `len` of the stored numbers are the list. The fields are public, so `len` may be over the capacity: push then answers that
 // the list is full, and every other function refuses it as a place outside.
-#[derive(Drop)]
+#[derive(Clone, Copy)]
 pub struct FieldVec {
     pub items: [u16; CAPACITY],
     pub len: usize,
 }
 
 // A list made or changed; on a refusal the list that was given, or the empty one where none was.
-#[derive(Drop)]
+#[derive(Clone, Copy)]
 pub struct Changed {
     pub number: u8,
     pub list: FieldVec,
 }
 
 // An element taken off a list, and the list without it.
-#[derive(Drop)]
+#[derive(Clone, Copy)]
 pub struct Popped {
     pub number: u8,
     pub value: u32,
@@ -37,14 +39,14 @@ pub struct Popped {
 }
 
 // An element of a list.
-#[derive(Drop)]
+#[derive(Clone, Copy)]
 pub enum Element {
     Value(u32),
     Refused(u8),
 }
 
 // Two lists compared.
-#[derive(Drop)]
+#[derive(Clone, Copy)]
 pub enum Equality {
     Same,
     Different,

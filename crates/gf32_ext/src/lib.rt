@@ -1,6 +1,8 @@
 // GF(1024), the extension of GF(32) in which the roots of the checksum's generator lie. The element a0 + a1 e, with e^2 = e + 1, is
 // the number a0 + 32 a1; a larger number counts by its remainder modulo the field's order. An element in hand is a u32; where many are
 // kept (fieldvec), each is stored as a u16.
+#![tactic(auto)]
+
 ghost use Rattle.std.specs.Prelude.{◌≡◌};
 ghost use Rattle.gf32_ext.specs.Field.{low, high, packed};
 ghost use Rattle.gf32_ext.specs.Roots.{root_generator};
@@ -15,7 +17,7 @@ pub const FIELD_ORDER: u32 = 1024;
 pub const ROOT_GENERATOR: u32 = 193;
 
 // What division gives.
-#[derive(Drop)]
+#[derive(Clone, Copy)]
 pub enum Quotient {
     Value(u32),
     Refused(u8),

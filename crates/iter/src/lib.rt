@@ -1,5 +1,7 @@
 // Regrouping, document 01's module 7: bytes into symbols of five bits and back, the most significant bit first, over the caller's slices.
 // A symbol counts by its low five bits.
+#![tactic(auto)]
+
 ghost use Rattle.std.specs.Prelude.{◌≡◌, List, ◌++◌, map, ℕ, ◌+◌, ◌-◌, ◌*◌, ◌/◌, ◌%◌, ◌^◌, ◌≤◌, ◌<◌, length, get_or, drop};
 ghost use Rattle.paper.specs.Bits.{to_bytes, to_symbols};
 ghost use Rattle.paper.specs.Charset.{symbol};
@@ -14,25 +16,25 @@ use numbers::{PADDING_LONG, PADDING_NOT_ZERO, ROOM_SMALL};
 const MAX_PADDING: usize = 4;
 
 // A walk over the symbols of a slice of bytes: how many it gave. Every count is a legal walk.
-#[derive(Drop)]
+#[derive(Clone, Copy)]
 pub struct BytesToSymbols {
     pub at: usize,
 }
 
 // A walk over the bytes of a slice of symbols: how many it gave.
-#[derive(Drop)]
+#[derive(Clone, Copy)]
 pub struct SymbolsToBytes {
     pub at: usize,
 }
 
 // What a walk gives next, and the walk after it.
-#[derive(Drop)]
+#[derive(Clone, Copy)]
 pub enum SymbolStep {
     Symbol(u8, BytesToSymbols),
     End,
 }
 
-#[derive(Drop)]
+#[derive(Clone, Copy)]
 pub enum ByteStep {
     Byte(u8, SymbolsToBytes),
     End,

@@ -1,6 +1,8 @@
 // The command-line checker over bytes in memory: one address a line, its number in decimal a line. The input comes in pieces, cut anywhere;
 // between two pieces the caller keeps a line buffer of at least 91 bytes and the count that the last call gave back. Memory stays the same
 // however long a line is.
+#![tactic(auto)]
+
 ghost use Rattle.std.specs.Prelude.{◌≡◌, ◌+◌, ◌≤◌, length, take, [], ◌∷◌, ◌++◌};
 ghost use Rattle.std.proofs.lemmas.List.Edits.{sets};
 ghost use Rattle.answers.specs.Reading.{address_verdict};
@@ -18,14 +20,14 @@ pub const KEPT: usize = 91;
 const LINE_END: u8 = b'\n';
 
 // What is known of a line that is not ended yet: how many of its bytes stand at the front of the line buffer. 0 at the start of the input.
-#[derive(Drop)]
+#[derive(Clone, Copy)]
 pub struct Line {
     pub len: usize,
 }
 
 // What comes of a piece: how many of its bytes were taken, how many bytes of the output are written, and the count for the next call; or the
 // number 17, and nothing was taken or written.
-#[derive(Drop)]
+#[derive(Clone, Copy)]
 pub enum Fed {
     Took {
         taken: usize,
@@ -36,7 +38,7 @@ pub enum Fed {
 }
 
 // How far the bytes of a piece were taken.
-#[derive(Drop)]
+#[derive(Clone, Copy)]
 struct Progress {
     taken: usize,
     written: usize,

@@ -1,4 +1,5 @@
 // Document 01's numbers, each once: an answer as one number is 0 for accepted, or the refusal's. What a function's promise says of them pins them.
+#![tactic(auto)]
 
 pub const ACCEPTED: u8 = 0;
 

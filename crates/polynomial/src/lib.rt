@@ -1,6 +1,8 @@
 // Polynomials over GF(1024): a FieldVec's elements are the coefficients, the constant term first, and the empty list is the zero
 // polynomial. A FieldVec whose count is over its capacity is refused with 26. An element is worked with as a u32; a polynomial that is
 // made stores it as a u16, which loses nothing of it: each is below the field's order.
+#![tactic(auto)]
+
 ghost use Rattle.std.specs.Prelude.{◌≡◌, [], ◌++◌, ◌+◌, ◌-◌, ◌*◌, ◌≤◌, ◌<◌, ◌%◌, min, eqb, length, get_or, drop, replicate};
 ghost use Rattle.laws.specs.Lists.{all};
 ghost use Rattle.gf32_ext.specs.Field.{field_order, power};
@@ -17,13 +19,13 @@ use numbers::{ACCEPTED, DIVISION_BY_ZERO, LIST_FULL, LIST_PLACE};
 // The order of the field's multiplicative group: exponents of a base below it give each of its powers.
 const GROUP_ORDER: usize = FIELD_ORDER as usize - 1;
 
-#[derive(Drop)]
+#[derive(Clone, Copy)]
 pub enum Exponent {
     Value(usize),
     Refused(u8),
 }
 
-#[derive(Drop)]
+#[derive(Clone, Copy)]
 pub enum Truth {
     Yes,
     No,
@@ -31,7 +33,7 @@ pub enum Truth {
 }
 
 // Where the search for a root ended: at an exponent of the base, or with none left.
-#[derive(Drop)]
+#[derive(Clone, Copy)]
 pub enum Root {
     At(usize),
     None,

@@ -1,5 +1,7 @@
 // Functions of decode, encode, hrp and iter on the cases of the file stdin, a line each: the case, then what each function gives. What must
 // come is in the file stdout, which the Rust wrote (tests/oracle/PORTS.md).
+#![tactic(auto)]
+
 ghost use Rattle.std.specs.Prelude.{◌<◌};
 
 use answers::{Verdict, Written};

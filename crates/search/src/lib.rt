@@ -1,5 +1,7 @@
 // The four-error search: is there a change of 1 to 4 symbols within a window that the checksum does not see? It walks down the window's
 // places and holds one residue for each change, so the scratch is wiped and never read.
+#![tactic(auto)]
+
 ghost use Rattle.std.specs.Prelude.{◌≡◌, [], ◌∷◌, ◌≤◌, length, replicate};
 ghost use Rattle.paper.specs.Checksum.{step};
 ghost use Rattle.search.specs.Patterns.{change, pattern_of};
@@ -17,14 +19,14 @@ const SCRATCH_WORDS: usize = 65536;
 const CHANGES_BELOW: u8 = 3;
 
 // A nonzero change of one symbol, at a place counted from the end. Zeros where a pattern has no such change.
-#[derive(Drop)]
+#[derive(Clone, Copy)]
 pub struct Change {
     pub place: u8,
     pub symbol: u8,
 }
 
 // Changes of 1 to 4 symbols, the highest place first, and how many they are.
-#[derive(Drop)]
+#[derive(Clone, Copy)]
 pub struct Pattern {
     pub count: u8,
     pub first: Change,
@@ -34,7 +36,7 @@ pub struct Pattern {
 }
 
 // What a search comes to, and the steps that it used: a pattern, or that there is none, or a refusal.
-#[derive(Drop)]
+#[derive(Clone, Copy)]
 pub enum Found {
     Shown(Pattern, u64),
     None(u64),

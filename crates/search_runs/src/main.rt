@@ -1,6 +1,8 @@
 // Searches, a line each: window, budget, words of scratch, whether all of them are as before and whether all are zero afterwards, as 1 or 0, and
 // what was found: n for none and s for shown with the steps that it took, r with the refusal and the steps. A pattern that is shown follows, how many
 // changes it has and four places with their symbols. What must come is in the file stdout.
+#![tactic(auto)]
+
 use libc::STDOUT_FILENO;
 use search::{Change, Found, Pattern};
 

@@ -1,4 +1,6 @@
 // Segwit's rules on the witness version and on the program's length: BIP-173, "Segwit address format".
+#![tactic(auto)]
+
 ghost use Rattle.std.specs.Prelude.{◌≡◌};
 ghost use Rattle.segwit.specs.Promises.{VersionChecked, ProgramLengthChecked};
 
