@@ -2,12 +2,8 @@
 use mathlib.Core.Path.{sym}
 use Rattle.laws.specs.Xor.{◌⊕◌}
 use Rattle.gf32_ext.proofs.Field.{sum_is}
-use Rattle.gf32_ext.proofs.add.Statement.{statement}
-use Rattle.gf32_ext.proofs.add.Tie as tie
+use Rattle.gf32_ext.proofs.add.Goals as goal
 
-returns : tie.Need-returns
+pub returns : goal.returns
 unfolding ◌⊕◌
 returns c = sym (sum_is c.args.x c.args.y)
-
-pub add_spec : {M : Type 1} → statement M
-add_spec = tie.close (tie.spec returns)
