@@ -1,0 +1,13 @@
+-- `FieldVec::push` meets its promise, test by test.
+use borrow.Author.Tests.{le-leb, lt-leb}
+use Rattle.fieldvec.specs.Lists.{pushed}
+use borrow.Author.Rules.{rules}
+use Rattle.fieldvec.proofs.FieldVec.push.Goals as goal
+
+pub returns-then-at-ge-CAPACITY : goal.returns-then-at-ge-CAPACITY
+unfolding pushed
+returns-then-at-ge-CAPACITY c = rw (le-leb _ _ c.if-at-ge-CAPACITY.true)
+
+pub returns : goal.returns
+unfolding pushed
+returns c = rw (lt-leb _ _ c.if-at-ge-CAPACITY.false, c.narrowed.ensures)

@@ -1,0 +1,16 @@
+-- The elements in the other order, made from zeros. The invariant: as many as were passed stand in their places.
+use mathlib.Core.Path.{◌≡◌, refl, sym}
+use Prim.Native.Nat.{◌-◌, ◌≤◌}
+use native.Mathlib.Omega.{arith}
+use mathlib.Core.List.{reverse}
+use lib.ListN.{length, length-reverse}
+use Rattle.laws.proofs.Front.{front}
+use Rattle.fieldvec.proofs.Build.{zeros, fill_more, fill_all, reversed_at}
+use borrow.Author.Rules.{rules}
+use Rattle.fieldvec.proofs.backwards.Given as goal
+
+abbrev pub invariant-loop-i : goal.invariant-loop-i
+invariant-loop-i l = (l.i ≤ length l.s) × (l.items ≡ front (reverse l.s) zeros l.i)
+
+abbrev pub decreases-loop-i : goal.decreases-loop-i
+decreases-loop-i l = length l.s - l.i
