@@ -9,8 +9,7 @@ use Rattle.fieldvec.specs.Lists.{elements}
 use Rattle.polynomial.specs.Polynomials.{value_at}
 use Rattle.polynomial.specs.Answers.{value_of}
 use borrow.Author.Rules.{rules}
-use Rattle.correction.proofs.value_at.Statement.{statement}
-use Rattle.correction.proofs.value_at.Tie as tie
+use Rattle.correction.proofs.value_at.Goals as goal
 
 given : (p : FieldVec) (x : ℕ) → p.len ≤ 7 → value_of p x ≡ Value (value_at (elements p) x)
 unfolding value_of
@@ -22,20 +21,8 @@ never_refused p x n h e = let f : ◌≡◌ {A = ℕ} 0 1 = cc (e, given p x h) 
 the_value : (p : FieldVec) (x v : ℕ) → p.len ≤ 7 → Value v ≡ value_of p x → v ≡ value_at (elements p) x
 the_value p x v h e = cc (e, given p x h)
 
-evaluate-requires : tie.Need-evaluate-requires
-evaluate-requires c κs = search rules
+pub returns-in_default : goal.returns-in_default
+returns-in_default c = absurd (never_refused _ _ _ c.requires (sym c.in_default.is ∙ c.evaluate.ensures))
 
-enum-known-value : tie.Need-enum-known-value
-enum-known-value c = search rules
-
-enum_told : tie.Need-enum-told
-enum_told c = search rules
-
-returns : tie.Need-returns
-returns c = absurd (never_refused _ _ _ c.before.before.before.requires (sym c.enum_told.given.1 ∙ c.before.before.evaluate.ensures))
-
-returns-2 : tie.Need-returns-2
-returns-2 c = the_value _ _ _ c.before.before.before.before.requires (sym c.before.value.given.1 ∙ c.before.before.before.evaluate.ensures)
-
-pub value-at-spec : {M : Type 1} → statement M
-value-at-spec = tie.close (tie.spec evaluate-requires enum-known-value enum_told returns returns-2)
+pub returns : goal.returns
+returns c = the_value _ _ _ c.requires (sym c.in-Value.is ∙ c.evaluate.ensures)
