@@ -65,9 +65,9 @@ fn with_results(entry: Entry, verdict: u8, version: u8, program: usize) -> Entry
     }
 }
 
-// Each entry of the lent list judged in its place. The answer is a number, 0 or 19, as callers that know C have no enums.
-#[unsafe(no_mangle)]
-pub extern "C" fn pennywax_apart_judge_batch(buffer: &[u8], entries: &mut [Entry]) -> u8
+// Each entry of the lent list judged in its place. The answer is a number, 0 or 19, as callers that know C have no enums. They call it through the
+// static library batch_c.
+pub fn pennywax_apart_judge_batch(buffer: &[u8], entries: &mut [Entry]) -> u8
     ensures { BatchJudged buffer.now entries.old result entries.new }
 {
     if MAX_ENTRIES < entries.len() {

@@ -5,8 +5,8 @@
 ghost use Rattle.std.specs.Prelude.{◌≤◌, length};
 
 use answers::Written;
-use libc::{STDERR_FILENO, STDIN_FILENO, STDOUT_FILENO};
 use lines::{Fed, Line};
+use std::io::Read;
 
 // What a piece of the input leaves behind: the count of kept bytes, and whether all its answers were written.
 #[derive(Clone, Copy)]
@@ -15,43 +15,48 @@ struct Stand {
     written: bool,
 }
 
-fn main() {
+fn main(rt: HostRuntime) {
     let mut line = [0u8; 91];
     let mut piece = [0u8; 65536];
     let mut out = [0u8; 65536];
-    run(&mut line, &mut piece, &mut out);
+    run(&rt, &mut line, &mut piece, &mut out);
 }
 
 // Piece by piece to the end of the input. Each piece's answers are written before more is read.
-fn run(line: &mut [u8], piece: &mut [u8], out: &mut [u8])
+fn run(rt: &(impl Input + Print + Eprint), line: &mut [u8], piece: &mut [u8], out: &mut [u8])
     requires { (91 ≤ length line.old) × (3 ≤ length out.old) }
 {
+    let mut input = rt.reader();
     let mut len = 0;
     let mut turns = u64::MAX;
     while 0 < turns {
-        let got = libc::read(STDIN_FILENO, piece);
-        if got < 0 {
-            say(b"checker: reading failed; the input after the last answer was not judged\n");
+        let Ok(n) = input.read(piece) else {
+            say(
+                rt,
+                "checker: reading failed; the input after the last answer was not judged",
+            );
             return;
-        }
-        let n = io::count(got, piece);
+        };
         if n == 0 {
-            finish(line, len, out);
+            finish(rt, line, len, out);
             return;
         }
-        let stand = answer(&piece[..n], line, len, out);
+        let stand = answer(rt, &piece[..n], line, len, out);
         if !stand.written {
-            say(b"checker: writing failed; answers are missing\n");
+            say(rt, "checker: writing failed; answers are missing");
             return;
         }
         len = stand.len;
         turns -= 1;
     }
-    say(b"checker: the input is too long; what follows was not judged\n");
+    say(
+        rt,
+        "checker: the input is too long; what follows was not judged",
+    );
 }
 
 // All answers of a piece.
-fn answer(piece: &[u8], line: &mut [u8], kept: usize, out: &mut [u8]) -> Stand
+fn answer(rt: &impl Print, piece: &[u8], line: &mut [u8], kept: usize, out: &mut [u8]) -> Stand
     requires { (91 ≤ length line.old) × (3 ≤ length out.old) × (kept ≤ 91) }
     ensures { result.len ≤ 91 }
 {
@@ -70,7 +75,7 @@ fn answer(piece: &[u8], line: &mut [u8], kept: usize, out: &mut [u8]) -> Stand
                 written: false,
             };
         };
-        if !write(out, written) {
+        if !write(rt, out, written) {
             return Stand {
                 len: next,
                 written: false,
@@ -83,25 +88,26 @@ fn answer(piece: &[u8], line: &mut [u8], kept: usize, out: &mut [u8]) -> Stand
 }
 
 // The last line's answer, if it had no line end.
-fn finish(line: &[u8], len: usize, out: &mut [u8])
+fn finish(rt: &(impl Print + Eprint), line: &[u8], len: usize, out: &mut [u8])
     requires { (91 ≤ length line.now) × (3 ≤ length out.old) × (len ≤ 91) }
 {
     let last = lines::finish(line, Line { len }, out);
     let Written::Accepted(n) = last else {
-        say(b"checker: the last answer is missing\n");
+        say(rt, "checker: the last answer is missing");
         return;
     };
-    if !write(out, n) {
-        say(b"checker: writing failed; the last answer is missing\n");
+    if !write(rt, out, n) {
+        say(rt, "checker: writing failed; the last answer is missing");
     }
 }
 
-fn write(out: &[u8], n: usize) -> bool
+fn write(rt: &impl Print, out: &[u8], n: usize) -> bool
     requires { n ≤ length out.now }
 {
-    io::write_all(STDOUT_FILENO, &out[..n])
+    rt.write_all(&out[..n]).is_ok()
 }
 
-fn say(text: &[u8]) {
-    io::write_all(STDERR_FILENO, text);
+// A message that cannot be written is lost.
+fn say(rt: &impl Eprint, text: &str) {
+    let _ = rt.eprintln(text);
 }

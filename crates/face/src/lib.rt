@@ -1,6 +1,6 @@
 // Pennywax for callers that know C: numbers and byte slices alone. A slice is two arguments, a pointer and a length. A checksum is a
 // number here, 1 for Bech32 and 2 for Bech32m; any other is refused with 28 before anything else is looked at. Each function gives
-// document 01's number, 0 for accepted; a refusal sets the other results to 0.
+// document 01's number, 0 for accepted; a refusal sets the other results to 0. C calls them through the static library face_c.
 //
 // What is proved of a function with `apart` in its name is proved for results and buffers that lie apart from all else that is given, as the
 // language has it. Callers do not know that: c/pennywax.c, which they call, asks pennywax_ranges_overlap first.
@@ -21,8 +21,7 @@ const BECH32: u8 = 1;
 
 const BECH32M: u8 = 2;
 
-#[unsafe(no_mangle)]
-pub extern "C" fn pennywax_apart_check_address(s: &[u8], version: &mut u8, length: &mut usize) -> u8
+pub fn pennywax_apart_check_address(s: &[u8], version: &mut u8, length: &mut usize) -> u8
     ensures { AddressChecked s.now result version.new length.new }
 {
     match decode::check_address(s) {
@@ -39,8 +38,7 @@ pub extern "C" fn pennywax_apart_check_address(s: &[u8], version: &mut u8, lengt
     }
 }
 
-#[unsafe(no_mangle)]
-pub extern "C" fn pennywax_apart_read_address(
+pub fn pennywax_apart_read_address(
     s: &[u8],
     out: &mut [u8],
     version: &mut u8,
@@ -63,13 +61,7 @@ pub extern "C" fn pennywax_apart_read_address(
 }
 
 // Generic reading: how long the prefix is, and how many symbols the data part has with the checksum taken off.
-#[unsafe(no_mangle)]
-pub extern "C" fn pennywax_apart_read(
-    code: u8,
-    s: &[u8],
-    prefix: &mut usize,
-    symbols: &mut usize,
-) -> u8
+pub fn pennywax_apart_read(code: u8, s: &[u8], prefix: &mut usize, symbols: &mut usize) -> u8
     ensures { StringRead code s.now result prefix.new symbols.new }
 {
     match read_coded(code, s) {
@@ -87,8 +79,7 @@ pub extern "C" fn pennywax_apart_read(
 }
 
 // The place of one changed symbol, counted from the end; 0 is answered where one is named.
-#[unsafe(no_mangle)]
-pub extern "C" fn pennywax_apart_locate(code: u8, s: &[u8], place: &mut usize) -> u8
+pub fn pennywax_apart_locate(code: u8, s: &[u8], place: &mut usize) -> u8
     ensures { PlaceLocated code s.now result place.new }
 {
     match locate_coded(code, s) {
@@ -103,13 +94,7 @@ pub extern "C" fn pennywax_apart_locate(code: u8, s: &[u8], place: &mut usize) -
     }
 }
 
-#[unsafe(no_mangle)]
-pub extern "C" fn pennywax_apart_read_bytes(
-    code: u8,
-    s: &[u8],
-    out: &mut [u8],
-    written: &mut usize,
-) -> u8
+pub fn pennywax_apart_read_bytes(code: u8, s: &[u8], out: &mut [u8], written: &mut usize) -> u8
     ensures { BytesRead code s.now out.old result out.new written.new }
 {
     match read_bytes_coded(code, s, out) {
@@ -124,8 +109,7 @@ pub extern "C" fn pennywax_apart_read_bytes(
     }
 }
 
-#[unsafe(no_mangle)]
-pub extern "C" fn pennywax_apart_write_symbols(
+pub fn pennywax_apart_write_symbols(
     code: u8,
     prefix: &[u8],
     symbols: &[u8],
@@ -146,8 +130,7 @@ pub extern "C" fn pennywax_apart_write_symbols(
     }
 }
 
-#[unsafe(no_mangle)]
-pub extern "C" fn pennywax_apart_write_bytes(
+pub fn pennywax_apart_write_bytes(
     code: u8,
     prefix: &[u8],
     bytes: &[u8],
@@ -168,8 +151,7 @@ pub extern "C" fn pennywax_apart_write_bytes(
     }
 }
 
-#[unsafe(no_mangle)]
-pub extern "C" fn pennywax_apart_write_address(
+pub fn pennywax_apart_write_address(
     prefix: &[u8],
     version: u8,
     program: &[u8],
@@ -191,8 +173,7 @@ pub extern "C" fn pennywax_apart_write_address(
 }
 
 // Whether m bytes at address a and n bytes at address b overlap: 0 or 37. Addresses are compared by their differences, since a sum may be no usize.
-#[unsafe(no_mangle)]
-pub extern "C" fn pennywax_ranges_overlap(a: usize, m: usize, b: usize, n: usize) -> u8
+pub fn pennywax_ranges_overlap(a: usize, m: usize, b: usize, n: usize) -> u8
     ensures { OverlapTold a m b n result }
 {
     if m == 0 {

@@ -6,69 +6,68 @@ ghost use Rattle.std.specs.Prelude.{◌<◌, ◌≤◌};
 
 use fieldvec::{Changed, Element, FieldVec};
 use gf32_ext::{FIELD_ORDER, Quotient, ROOT_GENERATOR};
-use libc::STDOUT_FILENO;
 use polynomial::{Exponent, Root};
 
-fn main() {
-    fields();
-    polynomials();
+fn main(rt: HostRuntime) {
+    fields(&rt);
+    polynomials(&rt);
 }
 
-fn fields() {
+fn fields(rt: &impl Print) {
     let mut k = 0u32;
     while k < 1023 {
-        field_line(k * 61 % FIELD_ORDER, k + 1);
+        field_line(rt, k * 61 % FIELD_ORDER, k + 1);
         k += 1;
     }
 }
 
-fn field_line(x: u32, y: u32) {
-    letter(b'm');
-    number(x as u64);
-    number(y as u64);
-    number(gf32_ext::multiply(x, y) as u64);
-    letter(b'i');
-    quotient(gf32_ext::inverse(y));
-    end_line();
+fn field_line(rt: &impl Print, x: u32, y: u32) {
+    letter(rt, b'm');
+    number(rt, x as u64);
+    number(rt, y as u64);
+    number(rt, gf32_ext::multiply(x, y) as u64);
+    letter(rt, b'i');
+    quotient(rt, gf32_ext::inverse(y));
+    end_line(rt);
 }
 
-fn polynomials() {
+fn polynomials(rt: &impl Print) {
     let mut t = 0u32;
     while t < 140 {
-        polynomial_line(t);
+        polynomial_line(rt, t);
         t += 1;
     }
 }
 
-fn polynomial_line(t: u32)
+fn polynomial_line(rt: &impl Print, t: u32)
     requires { t < 140 }
 {
     let residue = t * 26843545 % 1073741824;
     let p = polynomial_of(t, t % 7 + 1);
     let q = polynomial_of(t + 300, t / 7 % 7 + 1);
-    letter(b'p');
-    list(p);
-    list(q);
-    letter(b'd');
-    exponent(polynomial::degree(p));
-    letter(b'l');
-    element(polynomial::leading_term(p));
-    letter(b'v');
-    element(polynomial::evaluate(p, (t * 53 + 9) % FIELD_ORDER));
-    letter(b'f');
-    changed(polynomial::formal_derivative(p));
-    letter(b'm');
-    changed(polynomial::multiply_mod_x_d(p, q, (t % 11) as usize));
-    letter(b'c');
-    changed(polynomial::convolution(p, q));
-    letter(b's');
-    list(polynomial::from_residue(residue));
-    letter(b'r');
-    roots(p);
-    end_line();
+    letter(rt, b'p');
+    list(rt, p);
+    list(rt, q);
+    letter(rt, b'd');
+    exponent(rt, polynomial::degree(p));
+    letter(rt, b'l');
+    element(rt, polynomial::leading_term(p));
+    letter(rt, b'v');
+    element(rt, polynomial::evaluate(p, (t * 53 + 9) % FIELD_ORDER));
+    letter(rt, b'f');
+    changed(rt, polynomial::formal_derivative(p));
+    letter(rt, b'm');
+    changed(rt, polynomial::multiply_mod_x_d(p, q, (t % 11) as usize));
+    letter(rt, b'c');
+    changed(rt, polynomial::convolution(p, q));
+    letter(rt, b's');
+    list(rt, polynomial::from_residue(residue));
+    letter(rt, b'r');
+    roots(rt, p);
+    end_line(rt);
 }
 
-fn roots(p: FieldVec) {
+fn roots(rt: &impl Print, p: FieldVec) {
     let mut k = 0;
     while k < 1023 {
         let found = polynomial::first_root(p, ROOT_GENERATOR, k);
@@ -81,7 +80,7 @@ fn roots(p: FieldVec) {
         if 1022 < e {
             return;
         }
-        number(e as u64);
+        number(rt, e as u64);
         k = e + 1;
     }
 }
@@ -112,62 +111,61 @@ fn coefficient(t: u32, i: u32) -> u32
 
 // ---- the answers
 
-fn changed(answer: Changed) {
+fn changed(rt: &impl Print, answer: Changed) {
     let n = answer.number;
     if n != 0 {
-        refused(n);
+        refused(rt, n);
         return;
     }
     let made = answer.list;
-    list(made);
+    list(rt, made);
 }
 
-fn element(answer: Element) {
+fn element(rt: &impl Print, answer: Element) {
     match answer {
-        Element::Value(x) => number(x as u64),
-        Element::Refused(n) => refused(n),
+        Element::Value(x) => number(rt, x as u64),
+        Element::Refused(n) => refused(rt, n),
     }
 }
 
-fn quotient(answer: Quotient) {
+fn quotient(rt: &impl Print, answer: Quotient) {
     match answer {
-        Quotient::Value(x) => number(x as u64),
-        Quotient::Refused(n) => refused(n),
+        Quotient::Value(x) => number(rt, x as u64),
+        Quotient::Refused(n) => refused(rt, n),
     }
 }
 
-fn exponent(answer: Exponent) {
+fn exponent(rt: &impl Print, answer: Exponent) {
     match answer {
-        Exponent::Value(x) => number(x as u64),
-        Exponent::Refused(n) => refused(n),
+        Exponent::Value(x) => number(rt, x as u64),
+        Exponent::Refused(n) => refused(rt, n),
     }
 }
 
-fn refused(n: u8) {
-    letter(b'x');
-    number(n as u64);
+fn refused(rt: &impl Print, n: u8) {
+    letter(rt, b'x');
+    number(rt, n as u64);
 }
 
 // How many elements, and the elements.
-fn list(elements: FieldVec) {
+fn list(rt: &impl Print, elements: FieldVec) {
     let n = elements.len;
-    number(n as u64);
+    number(rt, n as u64);
     let mut i = 0;
     while i < n {
-        element(elements.get(i));
+        element(rt, elements.get(i));
         i += 1;
     }
 }
 
-fn number(n: u64) {
-    io::write_all(STDOUT_FILENO, b" ");
-    io::print_decimal(STDOUT_FILENO, n);
+fn number(rt: &impl Print, n: u64) {
+    let _ = print!(rt; " {n}");
 }
 
-fn letter(c: u8) {
-    io::write_all(STDOUT_FILENO, &[b' ', c]);
+fn letter(rt: &impl Print, c: u8) {
+    let _ = rt.write_all(&[b' ', c]);
 }
 
-fn end_line() {
-    io::write_all(STDOUT_FILENO, b"\n");
+fn end_line(rt: &impl Print) {
+    let _ = rt.write_all(b"\n");
 }
