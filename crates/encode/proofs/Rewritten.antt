@@ -16,7 +16,7 @@ use Rattle.paper.specs.Checksum.{residue, checksum, constant_of}
 use Rattle.paper.specs.Bits.{to_symbols, padding}
 use Rattle.paper.specs.Valid.{ValidString, ValidAddress}
 use Rattle.answers.specs.Rules.{padding_long, padding_not_zero}
-use Rattle.answers.specs.Reading.{prefix_part, data_part, payload, payload_symbols, version_of, program_of, read_verdict, address_verdict}
+use Rattle.answers.specs.Reading.{prefix_part, payload, payload_symbols, version_of, program_of, read_verdict, address_verdict}
 use Rattle.answers.specs.Writing.{written_string, written_address, write_verdict, write_address_verdict}
 use Rattle.answers.specs.declared.Reading.TheVariants as reading
 use Rattle.answers.specs.declared.Address.TheVariants as address

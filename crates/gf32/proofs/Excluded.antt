@@ -1,6 +1,6 @@
 -- Wrong answers that the promises rule out, each one that a slip in the code would give.
 use mathlib.Core.Path.{◌≡◌, ap, sym}
-use mathlib.Core.Bool.{Bool, true, false, false≢true}
+use mathlib.Core.Bool.{true, false, false≢true}
 use mathlib.Core.List.{List}
 use Prim.Native.Nat.{ℕ}
 use native.Mathlib.Omega.{arith}
@@ -14,7 +14,7 @@ use Rattle.gf32.specs.declared.Meaning.TheVariants as meaning
 use Rattle.gf32.specs.Field.{sum, times_a, products, product, inverse, quotient}
 use Rattle.gf32.specs.Bytes.{meaning, character}
 use Rattle.gf32.specs.Classes.{class_of, symbol_in, outside_in, upper_in, lower_in, both_cases_in}
-use Rattle.gf32.specs.Numbers.{number_of_quotient, value_of_quotient, number_of_meaning, symbol_of_meaning}
+use Rattle.gf32.specs.Numbers.{number_of_quotient, value_of_quotient, number_of_meaning}
 use Rattle.gf32.specs.Promises.{Added, Multiplied, Divided, ByteRead, ByteWritten, Lowered, ClassesGiven, SymbolTold, OutsideTold, BothCasesTold}
 
 -- a sum that keeps a coefficient both numbers have

@@ -1,5 +1,5 @@
 -- Wrong answers that the promises rule out, each one that a slip in the code would give. 32 is the element e.
-use mathlib.Core.Path.{◌≡◌, ap, sym, ◌∙◌}
+use mathlib.Core.Path.{◌≡◌, ap}
 use Prim.Native.Nat.{ℕ}
 use native.Mathlib.Omega.{arith}
 use Rattle.laws.specs.Xor.{◌⊕◌}

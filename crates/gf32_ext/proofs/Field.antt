@@ -1,6 +1,6 @@
 -- GF(1024) is a ring: the laws of `sum` and `product`, at every number. Each comes down to GF(32)'s laws at the two coefficients.
 use mathlib.Core.Path.{◌≡◌, sym, ap, ap₂, ◌∙◌}
-use Prim.Native.Nat.{ℕ, ◌+◌, ◌-◌, ◌*◌, ◌/◌, ◌%◌, ◌^◌, ◌<◌}
+use Prim.Native.Nat.{ℕ, ◌+◌, ◌*◌, ◌/◌, ◌%◌, ◌^◌, ◌<◌}
 use native.Mathlib.Nat.{mod-lt, zero-lt-suc, mod-eq_of_lt, add_comm, mul_comm}
 use native.Mathlib.Omega.{arith}
 use lib.Bits.{xor_shifted}

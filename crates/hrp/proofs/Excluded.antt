@@ -1,6 +1,6 @@
 -- Wrong answers that the promises rule out, each on a concrete input.
 use mathlib.Core.Path.{◌≡◌, ap}
-use mathlib.Core.Bool.{Bool, true, false}
+use mathlib.Core.Bool.{true, false}
 use mathlib.Core.List.{List, [], ◌∷◌}
 use Prim.Native.Nat.{ℕ}
 use native.Mathlib.Omega.{arith}
@@ -15,7 +15,7 @@ use Rattle.hrp.specs.Compare.{same_case_aside, order_case_aside}
 use Rattle.hrp.specs.Networks.{network_of, segwit_prefix}
 use Rattle.hrp.specs.Numbers.{value_of_network, value_of_order}
 use Rattle.hrp.specs.Promises.{Checked, Folded, Compared, Matched, NetworkFound, SegwitPrefixAsked}
-use Rattle.hrp.specs.declared.Network.TheVariants.{Mainnet, Testnet, Regtest, Unknown}
+use Rattle.hrp.specs.declared.Network.TheVariants.{Mainnet, Testnet, Unknown}
 use Rattle.hrp.specs.declared.Order.TheVariants.{Less, Equal, Greater}
 
 -- ---- hrp::check

@@ -2,7 +2,7 @@
 -- A list of numbers of w bits each spells one number, and a part of its bits is a quotient and a remainder of that number.
 use mathlib.Core.Path.{◌≡◌, refl, sym, ap, ap₂, ◌∙◌}
 use mathlib.Core.List.{List, [], ◌∷◌, ◌++◌, append_assoc}
-use Prim.Native.Nat.{ℕ, zero, suc, ◌+◌, ◌-◌, ◌*◌, ◌/◌, ◌%◌, ◌^◌, ◌<◌}
+use Prim.Native.Nat.{ℕ, zero, suc, ◌+◌, ◌*◌, ◌/◌, ◌%◌, ◌^◌, ◌<◌}
 use native.Mathlib.Nat.{zero-div, zero-add, suc-add, add_comm, suc-mul, zero-mul, pow-suc, mod-lt, mul-add-div_right, mul-add-mod_self_right}
 use native.Mathlib.Omega.{arith}
 use lib.Arith.{digits_lt, digits_div}

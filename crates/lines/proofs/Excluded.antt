@@ -1,6 +1,6 @@
 -- Wrong answers that the promises exclude, each on a concrete input: nothing taken without a number, a byte too few kept, another line end, an answer
 -- that fits refused, an empty line answered, digits the wrong way round.
-use mathlib.Core.Path.{◌≡◌, ap, ◌∙◌}
+use mathlib.Core.Path.{◌≡◌, ap}
 use mathlib.Core.List.{List, [], ◌∷◌}
 use Prim.Native.Nat.{ℕ}
 use native.Mathlib.Omega.{arith}
@@ -11,7 +11,6 @@ use Rattle.answers.proofs.Computing.{computing}
 use Rattle.lines.specs.Lines.{answer_to}
 use Rattle.lines.specs.Feeding.{answered, line_with, count_with, kept, full, passed, fed_from, kept_count, start, stuck, fed, fed_refused, finished, finish_refused}
 use Rattle.lines.specs.Promises.{WasFed, WasFinished}
-use Rattle.lines.specs.declared.Fed.{Fed}
 use Rattle.lines.specs.declared.Fed.TheVariants.{Took, Refused}
 
 -- ---- feed

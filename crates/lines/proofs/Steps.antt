@@ -17,7 +17,6 @@ use Rattle.answers.specs.declared.Written.TheVariants as written
 use Rattle.lines.specs.Lines.{decimal, answer_to}
 use Rattle.lines.specs.Feeding.{Standing, standing, answered, kept, line_with, count_with, answer_length, full, passed, fed_from, kept_count, start, stuck, fed, fed_refused, finished, finish_refused}
 use Rattle.lines.specs.Promises.{progress, told, WentOn, WasFed, WasFinished}
-use Rattle.lines.specs.declared.Fed.{Fed}
 use Rattle.lines.specs.declared.Fed.TheVariants.{Took, Refused}
 use Rattle.lines.specs.declared.Progress.{Progress}
 

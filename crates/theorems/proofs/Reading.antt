@@ -11,7 +11,7 @@ use Rattle.paper.specs.Charset.{symbol}
 use Rattle.paper.specs.Bits.{to_bytes}
 use Rattle.paper.specs.Valid.{ValidAddress}
 use Rattle.answers.specs.Accepted.{ReadAs, AddressAs}
-use Rattle.answers.specs.Reading.{prefix_part, payload, payload_symbols, program_of, read_verdict, read_bytes_verdict, buffer_after, part_of, address_verdict, program_after}
+use Rattle.answers.specs.Reading.{prefix_part, payload, payload_symbols, program_of, read_bytes_verdict, buffer_after, address_verdict, program_after}
 use Rattle.answers.specs.declared.Reading.{Reading}
 use Rattle.answers.specs.declared.Reading.TheVariants as reading
 use Rattle.answers.specs.declared.Written.{Written}

@@ -1,6 +1,5 @@
 -- `entry_verdict` gives what the definition gives. The two comparisons stand for the one with the sum of start and length (Entries).
 use mathlib.Core.Path.{◌∙◌}
-use borrow.Author.Rules.{rules}
 use Rattle.batch.proofs.Entries.{starts_outside, ends_outside, part_judged}
 use Rattle.batch.proofs.entry_verdict.Goals as goal
 

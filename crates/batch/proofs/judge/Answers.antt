@@ -1,6 +1,5 @@
 -- `judge` gives what the definition gives: the verdict of the entry, put into it.
 use mathlib.Core.Path.{ap, ◌∙◌}
-use borrow.Author.Rules.{rules}
 use Rattle.batch.specs.Batch.{judged_as}
 use Rattle.batch.proofs.Entries.{entry_judged}
 use Rattle.batch.proofs.judge.Goals as goal

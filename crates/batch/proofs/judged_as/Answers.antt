@@ -1,6 +1,5 @@
 -- `judged_as` gives what the definition gives, case by case.
 use mathlib.Core.Path.{ap, sym, ◌∙◌}
-use borrow.Author.Rules.{rules}
 use Rattle.batch.specs.Batch.{judged_as}
 use Rattle.batch.proofs.judged_as.Goals as goal
 

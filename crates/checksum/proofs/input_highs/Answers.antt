@@ -1,12 +1,8 @@
 -- The high three bits of each byte in lower case. The invariant: what is left of the prefix takes the residue to where all of it
 -- takes the start.
-use mathlib.Core.Path.{◌≡◌, refl, ap, ◌∙◌}
-use mathlib.Core.List.{map}
-use Prim.Native.Nat.{◌-◌, ◌≤◌}
+use mathlib.Core.Path.{refl, ap, ◌∙◌}
 use borrow.Author.Rules.{rules}
-use lib.ListN.{length, drop}
 use Rattle.paper.specs.Charset.{lower}
-use Rattle.paper.specs.Checksum.{polymod}
 use Rattle.checksum.specs.Parameters.{high}
 use Rattle.checksum.proofs.Polymod.{mapped_twice, one_more, no_more}
 use Rattle.checksum.proofs.input_highs.Goals as goal

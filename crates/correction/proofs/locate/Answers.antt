@@ -5,7 +5,6 @@ use Rattle.checksum.specs.Parameters.{constant_for}
 use Rattle.checksum.proofs.Constants.{constant_lt}
 use Rattle.correction.specs.Locator.{place_verdict}
 use Rattle.correction.proofs.Locating.{split_keeps, accepted_unplaced, keeps, prefix_inside, residue_small, nine_placed}
-use borrow.Author.Rules.{rules}
 use Rattle.correction.proofs.locate.Goals as goal
 
 pub returns-in-Refused : goal.returns-in-Refused

@@ -18,7 +18,6 @@ use Rattle.correction.specs.declared.Located.TheVariants as located
 use Rattle.correction.proofs.Elements.{root_24, root_25, root_26, difference_length, syndrome}
 use Rattle.correction.proofs.Verdicts.{statement_explains, place_found, place_missing}
 use Rattle.correction.proofs.OneChange.{has_ratio, ratio_is, one_ratio, has_change, small_change, place_explains, root_never_refused, root_there, root_below, root_found}
-use borrow.Author.Rules.{rules}
 use Rattle.correction.proofs.place_of.Goals as goal
 
 pub value_at-first-requires : goal.value_at-first-requires

@@ -4,7 +4,6 @@ use Prim.Native.Nat.{ℕ, ◌+◌}
 use Rattle.gf32_ext.specs.Field.{product, power}
 use Rattle.gf32_ext.proofs.Field.{product_comm, product_mod_right}
 use Rattle.gf32_ext.proofs.Powers.{power_one, power_more, power_plus}
-use borrow.Author.Rules.{rules}
 use Rattle.correction.proofs.power_24.Goals as goal
 
 cube : (x : ℕ) → product (product x x) x ≡ power x 3

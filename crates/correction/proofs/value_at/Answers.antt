@@ -8,7 +8,6 @@ use Rattle.fieldvec.specs.declared.Element.TheVariants.{Value, Refused}
 use Rattle.fieldvec.specs.Lists.{elements}
 use Rattle.polynomial.specs.Polynomials.{value_at}
 use Rattle.polynomial.specs.Answers.{value_of}
-use borrow.Author.Rules.{rules}
 use Rattle.correction.proofs.value_at.Goals as goal
 
 given : (p : FieldVec) (x : ℕ) → p.len ≤ 7 → value_of p x ≡ Value (value_at (elements p) x)

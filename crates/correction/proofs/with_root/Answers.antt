@@ -4,7 +4,6 @@ use mathlib.Core.List.{[], ◌∷◌}
 use Prim.Native.Nat.{ℕ}
 use Rattle.fieldvec.specs.Lists.{listed}
 use Rattle.fieldvec.proofs.Stored.{narrowed_whole}
-use borrow.Author.Rules.{rules}
 use Rattle.correction.proofs.with_root.Goals as goal
 
 pub returns : goal.returns

@@ -4,7 +4,6 @@ use mathlib.Core.List.{map}
 use Rattle.paper.specs.Charset.{symbol}
 use Rattle.paper.specs.Checksum.{residue}
 use Rattle.decode.proofs.Asked.{engine_came, sum_short, sum_wrong, sum_right}
-use borrow.Author.Rules.{rules}
 use Rattle.decode.proofs.check.Goals as goal
 
 pub returns-then-characters-lt-CHECKSUM_LENGTH : goal.returns-then-characters-lt-CHECKSUM_LENGTH

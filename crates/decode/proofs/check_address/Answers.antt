@@ -6,7 +6,6 @@ use Rattle.decode.specs.Asked.{judgement}
 use Rattle.decode.proofs.Told.{told_parted}
 use Rattle.decode.proofs.Own.{OwnParts, parts_length, parts_prefix, parts_data}
 use Rattle.decode.proofs.Segwit.{address_split_refused, address_own, address_judged}
-use borrow.Author.Rules.{rules}
 use Rattle.decode.proofs.check_address.Goals as goal
 
 pub returns-in_default : goal.returns-in_default

@@ -3,7 +3,6 @@ use mathlib.Core.Path.{sym, ◌∙◌}
 use native.Mathlib.Omega.{arith}
 use Rattle.checksum.specs.Parameters.{constant_for}
 use Rattle.decode.proofs.Generic.{read_length, data_part_refused, data_part_accepted}
-use borrow.Author.Rules.{rules}
 use Rattle.decode.proofs.data_part.Goals as goal
 
 pub returns-in_default : goal.returns-in_default

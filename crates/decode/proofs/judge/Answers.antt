@@ -4,7 +4,6 @@ use Rattle.decode.specs.Asked.{version_given}
 use Rattle.decode.specs.declared.Version.TheVariants as version
 use Rattle.decode.proofs.Told.{told_version, told_verdict}
 use Rattle.decode.proofs.Segwit.{version_refused, sum_refused, payload_missing_lem, program_enough, padding_refused, length_refused, address_accepted}
-use borrow.Author.Rules.{rules}
 use Rattle.decode.proofs.judge.Goals as goal
 
 pub returns-in_default : goal.returns-in_default

@@ -4,7 +4,6 @@ use native.Mathlib.Omega.{arith}
 use lib.Seq.{length-take-le}
 use Rattle.checksum.specs.Parameters.{constant_for}
 use Rattle.decode.proofs.Generic.{read_length, prefix_part_refused, prefix_part_accepted}
-use borrow.Author.Rules.{rules}
 use Rattle.decode.proofs.prefix_part.Goals as goal
 
 pub returns-in_default : goal.returns-in_default

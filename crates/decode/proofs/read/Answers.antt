@@ -8,7 +8,6 @@ use Rattle.decode.specs.Asked.{sum_verdict}
 use Rattle.decode.proofs.Told.{told_parted, told_verdict}
 use Rattle.decode.proofs.Own.{OwnParts, split_own, parts_length, parts_prefix, parts_data}
 use Rattle.decode.proofs.Generic.{read_split_refused, read_long, read_sum_refused, read_enough, read_accepted}
-use borrow.Author.Rules.{rules}
 use Rattle.decode.proofs.read.Goals as goal
 
 pub returns-in_default : goal.returns-in_default

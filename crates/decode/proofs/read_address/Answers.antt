@@ -12,7 +12,6 @@ use Rattle.decode.proofs.Told.{told_parted}
 use Rattle.decode.proofs.Own.{OwnParts, parts_length, parts_prefix, parts_data}
 use Rattle.decode.proofs.Segwit.{address_split_refused, address_own, address_judged, judged_enough, program_own}
 use Rattle.decode.proofs.Rooms.{address_refused, no_room, room_enough}
-use borrow.Author.Rules.{rules}
 use Rattle.decode.proofs.read_address.Goals as goal
 
 pub returns-in_default : goal.returns-in_default

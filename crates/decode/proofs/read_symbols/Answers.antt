@@ -4,7 +4,6 @@ use native.Mathlib.Omega.{arith}
 use Rattle.checksum.specs.Parameters.{constant_for}
 use Rattle.decode.proofs.Generic.{read_length, read_payload}
 use Rattle.decode.proofs.Rooms.{symbols_refused, symbols_written}
-use borrow.Author.Rules.{rules}
 use Rattle.decode.proofs.read_symbols.Goals as goal
 
 pub part_after-requires : goal.part_after-requires

@@ -1,7 +1,6 @@
 -- The rules 1 to 6 in their order: what each test of the code comes to, by the laws on the scans, and then each exit.
 use mathlib.Core.Path.{◌≡◌, sym, ◌∙◌}
 use mathlib.Core.Bool.{false}
-use borrow.Author.Rules.{rules}
 use borrow.Author.Tests.{eq-eqb, ne_eqb, lt-ltb, le-ltb}
 use Rattle.laws.specs.Lists.{all}
 use Rattle.paper.specs.Charset.{is_printable}

@@ -1,7 +1,6 @@
 -- 10 before what `split` says.
 use mathlib.Core.Path.{◌∙◌}
 use Rattle.decode.proofs.Segwit.{split_long, split_short}
-use borrow.Author.Rules.{rules}
 use Rattle.decode.proofs.split_address.Goals as goal
 
 pub returns-then-s-gt-MAX_STRING_LENGTH : goal.returns-then-s-gt-MAX_STRING_LENGTH

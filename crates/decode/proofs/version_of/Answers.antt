@@ -1,7 +1,6 @@
 -- The version, by what its character means; a character outside the charset is above every version.
 use mathlib.Core.Path.{sym, ◌∙◌}
 use Rattle.decode.proofs.Asked.{version_missing, version_no_symbol, version_large, version_known}
-use borrow.Author.Rules.{rules}
 use Rattle.decode.proofs.version_of.Goals as goal
 
 pub returns-then-characters-eq0 : goal.returns-then-characters-eq0

@@ -4,7 +4,6 @@ use native.Mathlib.Omega.{arith}
 use lib.ListN.{length}
 use Rattle.encode.proofs.Accepted.{address_accepted}
 use Rattle.encode.proofs.Answers.{refused, accepted}
-use borrow.Author.Rules.{rules}
 use Rattle.encode.proofs.write_address.Goals as goal
 
 pub returns-in_default : goal.returns-in_default

@@ -4,7 +4,6 @@ use lib.ListN.{length}
 use Rattle.checksum.specs.Parameters.{constant_for}
 use Rattle.encode.proofs.Accepted.{symbols_accepted}
 use Rattle.encode.proofs.Answers.{refused, accepted}
-use borrow.Author.Rules.{rules}
 use Rattle.encode.proofs.write_symbols.Goals as goal
 
 pub returns-in_default : goal.returns-in_default

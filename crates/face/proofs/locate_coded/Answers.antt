@@ -2,7 +2,6 @@
 use mathlib.Core.Path.{refl}
 use borrow.Author.Tests.{eq-eqb, ne_eqb}
 use Rattle.face.specs.Codes.{coded_locate}
-use borrow.Author.Rules.{rules}
 use Rattle.face.proofs.locate_coded.Goals as goal
 
 pub returns-then-code-eq-BECH32 : goal.returns-then-code-eq-BECH32

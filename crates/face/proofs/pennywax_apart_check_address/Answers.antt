@@ -1,6 +1,5 @@
 -- What `decode::check_address` ensures of its answer, taken apart (proofs/Outcomes.antt).
 use Rattle.face.proofs.Outcomes.{checked_accepted, checked_refused}
-use borrow.Author.Rules.{rules}
 use Rattle.face.proofs.pennywax_apart_check_address.Goals as goal
 
 pub returns-in-Accepted : goal.returns-in-Accepted

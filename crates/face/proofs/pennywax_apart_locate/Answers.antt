@@ -1,6 +1,5 @@
 -- What `locate_coded` ensures of its answer, taken apart (proofs/Outcomes.antt).
 use Rattle.face.proofs.Outcomes.{located_at, located_refused}
-use borrow.Author.Rules.{rules}
 use Rattle.face.proofs.pennywax_apart_locate.Goals as goal
 
 pub returns-in-At : goal.returns-in-At

@@ -1,6 +1,5 @@
 -- What `read_coded` ensures of its answer, taken apart (proofs/Outcomes.antt).
 use Rattle.face.proofs.Outcomes.{string_accepted, string_refused}
-use borrow.Author.Rules.{rules}
 use Rattle.face.proofs.pennywax_apart_read.Goals as goal
 
 pub returns-in-Accepted : goal.returns-in-Accepted

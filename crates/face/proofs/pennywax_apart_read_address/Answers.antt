@@ -1,6 +1,5 @@
 -- What `decode::read_address` ensures of its answer and of the buffer, taken apart (proofs/Outcomes.antt).
 use Rattle.face.proofs.Outcomes.{read_accepted, read_refused}
-use borrow.Author.Rules.{rules}
 use Rattle.face.proofs.pennywax_apart_read_address.Goals as goal
 
 pub returns-in-Accepted : goal.returns-in-Accepted

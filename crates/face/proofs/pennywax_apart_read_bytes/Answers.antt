@@ -1,6 +1,5 @@
 -- What `read_bytes_coded` ensures of its answer and of the buffer, taken apart (proofs/Outcomes.antt).
 use Rattle.face.proofs.Outcomes.{bytes_accepted, bytes_refused}
-use borrow.Author.Rules.{rules}
 use Rattle.face.proofs.pennywax_apart_read_bytes.Goals as goal
 
 pub returns-in-Accepted : goal.returns-in-Accepted

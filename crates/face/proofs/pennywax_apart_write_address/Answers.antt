@@ -1,6 +1,5 @@
 -- What `encode::write_address` ensures of its answer and of the buffer, taken apart (proofs/Outcomes.antt).
 use Rattle.face.proofs.Outcomes.{address_written_accepted, address_written_refused}
-use borrow.Author.Rules.{rules}
 use Rattle.face.proofs.pennywax_apart_write_address.Goals as goal
 
 pub returns-in-Accepted : goal.returns-in-Accepted

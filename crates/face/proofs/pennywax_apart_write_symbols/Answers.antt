@@ -1,6 +1,5 @@
 -- What `write_symbols_coded` ensures of its answer and of the buffer, taken apart (proofs/Outcomes.antt).
 use Rattle.face.proofs.Outcomes.{written_accepted, written_refused}
-use borrow.Author.Rules.{rules}
 use Rattle.face.proofs.pennywax_apart_write_symbols.Goals as goal
 
 pub returns-in-Accepted : goal.returns-in-Accepted

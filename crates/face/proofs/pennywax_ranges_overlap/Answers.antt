@@ -1,6 +1,5 @@
 -- Each way out is a line of the definition (proofs/Overlap.antt), with differences of addresses in place of sums.
 use mathlib.Core.Path.{sym, ◌∙◌}
-use borrow.Author.Rules.{rules}
 use native.Mathlib.Omega.{arith}
 use Rattle.face.proofs.Overlap.{Memory, first_empty, second_empty, first_past, second_past, ends_before, begins_after, meet}
 use Rattle.face.proofs.pennywax_ranges_overlap.Goals as goal

@@ -1,7 +1,6 @@
 -- The last of `count` bytes lies past the last address exactly if their end lies past the top.
 use Prim.Native.Nat.{◌+◌}
 use native.Mathlib.Omega.{arith}
-use borrow.Author.Rules.{rules}
 use borrow.Author.Tests.{le-ltb}
 use mathlib.Core.Path.{sym}
 use Rattle.face.specs.Overlap.{top}

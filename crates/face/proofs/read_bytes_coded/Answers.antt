@@ -1,6 +1,5 @@
 -- Each code is its checksum, and any other is 28.
 use Rattle.face.proofs.Outcomes.{coded_bech32, coded_bech32m, coded_unknown}
-use borrow.Author.Rules.{rules}
 use Rattle.face.proofs.read_bytes_coded.Goals as goal
 
 pub returns-then-code-eq-BECH32 : goal.returns-then-code-eq-BECH32

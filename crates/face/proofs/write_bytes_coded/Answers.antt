@@ -1,7 +1,6 @@
 -- Each code is its checksum, and any other is 28.
 use Rattle.checksum.specs.declared.Checksum.TheVariants.{Bech32, Bech32m}
 use Rattle.face.proofs.Outcomes.{write_bech32, write_bech32m, write_unknown, bytes_as_symbols}
-use borrow.Author.Rules.{rules}
 use Rattle.face.proofs.write_bytes_coded.Goals as goal
 
 pub returns-then-code-eq-BECH32 : goal.returns-then-code-eq-BECH32

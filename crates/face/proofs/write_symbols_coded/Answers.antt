@@ -1,6 +1,5 @@
 -- Each code is its checksum, and any other is 28.
 use Rattle.face.proofs.Outcomes.{write_bech32, write_bech32m, write_unknown}
-use borrow.Author.Rules.{rules}
 use Rattle.face.proofs.write_symbols_coded.Goals as goal
 
 pub returns-then-code-eq-BECH32 : goal.returns-then-code-eq-BECH32

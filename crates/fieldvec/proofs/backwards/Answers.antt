@@ -1,11 +1,9 @@
 -- The elements in the other order, made from zeros. The invariant: as many as were passed stand in their places.
-use mathlib.Core.Path.{◌≡◌, refl, sym}
-use Prim.Native.Nat.{◌-◌, ◌≤◌}
+use mathlib.Core.Path.{refl, sym}
 use native.Mathlib.Omega.{arith}
 use mathlib.Core.List.{reverse}
-use lib.ListN.{length, length-reverse}
-use Rattle.laws.proofs.Front.{front}
-use Rattle.fieldvec.proofs.Build.{zeros, fill_more, fill_all, reversed_at}
+use lib.ListN.{length-reverse}
+use Rattle.fieldvec.proofs.Build.{fill_more, fill_all, reversed_at}
 use borrow.Author.Rules.{rules}
 use Rattle.fieldvec.proofs.backwards.Goals as goal
 

@@ -1,12 +1,10 @@
 -- The elements in the other order, made from zeros. The invariant: as many as were passed stand in their places.
-use mathlib.Core.Path.{◌≡◌, refl, sym}
+use mathlib.Core.Path.{◌≡◌}
 use Prim.Native.Nat.{◌-◌, ◌≤◌}
-use native.Mathlib.Omega.{arith}
 use mathlib.Core.List.{reverse}
-use lib.ListN.{length, length-reverse}
+use lib.ListN.{length}
 use Rattle.laws.proofs.Front.{front}
-use Rattle.fieldvec.proofs.Build.{zeros, fill_more, fill_all, reversed_at}
-use borrow.Author.Rules.{rules}
+use Rattle.fieldvec.proofs.Build.{zeros}
 use Rattle.fieldvec.proofs.backwards.Given as goal
 
 abbrev pub invariant-loop-i : goal.invariant-loop-i

@@ -1,10 +1,7 @@
 -- The elements once more, made from zeros. The invariant: as many as were passed stand in their places.
-use mathlib.Core.Path.{◌≡◌, refl}
-use Prim.Native.Nat.{◌-◌, ◌≤◌}
+use mathlib.Core.Path.{refl}
 use native.Mathlib.Omega.{arith}
-use lib.ListN.{length}
-use Rattle.laws.proofs.Front.{front}
-use Rattle.fieldvec.proofs.Build.{zeros, fill_more, fill_all}
+use Rattle.fieldvec.proofs.Build.{fill_more, fill_all}
 use borrow.Author.Rules.{rules}
 use Rattle.fieldvec.proofs.copied.Goals as goal
 

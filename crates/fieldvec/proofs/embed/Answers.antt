@@ -1,6 +1,5 @@
 -- A symbol as an element: the same number.
 use mathlib.Core.Path.{refl}
-use borrow.Author.Rules.{rules}
 use Rattle.fieldvec.proofs.embed.Goals as goal
 
 pub returns : goal.returns

@@ -1,12 +1,10 @@
 -- The symbols as elements, made from zeros. The invariant: as many as were passed stand in their places.
-use mathlib.Core.Path.{◌≡◌, refl, sym, ◌∙◌}
-use Prim.Native.Nat.{◌-◌, ◌≤◌}
+use mathlib.Core.Path.{refl, sym, ◌∙◌}
 use native.Mathlib.Omega.{arith}
 use mathlib.Core.List.{map}
-use lib.ListN.{length, length-map}
-use Rattle.laws.proofs.Front.{front}
+use lib.ListN.{length-map}
 use Rattle.fieldvec.specs.Lists.{symbol_of}
-use Rattle.fieldvec.proofs.Build.{zeros, fill_more, fill_all}
+use Rattle.fieldvec.proofs.Build.{fill_more, fill_all}
 use Rattle.laws.proofs.Front.{get_d_map}
 use borrow.Author.Rules.{rules}
 use Rattle.fieldvec.proofs.embedded.Goals as goal

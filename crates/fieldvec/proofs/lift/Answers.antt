@@ -2,7 +2,6 @@
 use mathlib.Core.Path.{ap}
 use borrow.Author.Tests.{lt-ltb, le-ltb}
 use Rattle.fieldvec.specs.Lists.{accepted, lifted}
-use borrow.Author.Rules.{rules}
 use Rattle.fieldvec.proofs.lift.Goals as goal
 
 pub returns-then-symbols-gt-CAPACITY : goal.returns-then-symbols-gt-CAPACITY

@@ -1,11 +1,8 @@
 -- The comparison of two lists. The invariant: what is left of both is alike exactly if the whole is.
-use mathlib.Core.Path.{◌≡◌, refl, sym, ◌∙◌}
+use mathlib.Core.Path.{◌≡◌}
 use Prim.Native.Nat.{◌-◌, ◌≤◌}
-use native.Mathlib.Omega.{arith}
 use lib.ListN.{length, drop}
 use Rattle.fieldvec.specs.Lists.{alike}
-use Rattle.fieldvec.proofs.Laws.{alike_unlike, alike_more, alike_stop, alike_done}
-use borrow.Author.Rules.{rules}
 use Rattle.fieldvec.proofs.matches.Given as goal
 
 abbrev pub invariant-loop-i : goal.invariant-loop-i

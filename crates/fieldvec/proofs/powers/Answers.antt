@@ -2,7 +2,6 @@
 use mathlib.Core.Path.{ap}
 use borrow.Author.Tests.{lt-ltb, le-ltb}
 use Rattle.fieldvec.specs.Lists.{accepted, powers_given}
-use borrow.Author.Rules.{rules}
 use Rattle.fieldvec.proofs.powers.Goals as goal
 
 pub returns-then-n-gt-CAPACITY : goal.returns-then-n-gt-CAPACITY

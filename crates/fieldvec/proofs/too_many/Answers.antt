@@ -1,7 +1,6 @@
 -- The refusal where no list was given.
 use mathlib.Core.Path.{ap}
 use Rattle.fieldvec.specs.Lists.{refused}
-use borrow.Author.Rules.{rules}
 use Rattle.fieldvec.proofs.too_many.Goals as goal
 
 pub returns : goal.returns

@@ -1,6 +1,5 @@
 -- `gf32::class_symbol` meets its promise, by the definition.
 use mathlib.Core.Path.{refl}
-use borrow.Author.Rules.{rules}
 use Rattle.gf32.specs.Classes.{symbol_in}
 use Rattle.gf32.proofs.class_symbol.Goals as goal
 

@@ -8,7 +8,6 @@ use Rattle.gf32.specs.Field.{product, inverse, quotient}
 use Rattle.gf32.specs.Exponents.{power_of}
 use Rattle.gf32.proofs.Field.{product_mod_left, zero_product}
 use Rattle.gf32.proofs.Exponents.{log_lt, quotient_by_exponents}
-use borrow.Author.Rules.{rules}
 use Rattle.gf32.proofs.divide.Goals as goal
 
 pub returns-then-y-eq0 : goal.returns-then-y-eq0

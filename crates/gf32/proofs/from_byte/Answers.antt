@@ -3,7 +3,6 @@ use mathlib.Core.Path.{sym, ap, ◌∙◌}
 use Rattle.gf32.specs.Bytes.{meaning}
 use Rattle.gf32.specs.Classes.{symbol_in, outside_in}
 use Rattle.gf32.proofs.ClassLaws.{symbol_told, inside_told}
-use borrow.Author.Rules.{rules}
 use Rattle.gf32.proofs.from_byte.Goals as goal
 
 pub returns-then-has_outside : goal.returns-then-has_outside

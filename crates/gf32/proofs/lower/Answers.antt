@@ -1,5 +1,4 @@
 -- `gf32::lower` meets its promise: each exit rewrites by the tests that led there.
-use borrow.Author.Rules.{rules}
 use borrow.Author.Tests.{le-leb, lt-leb}
 use Rattle.gf32.proofs.lower.Goals as goal
 

@@ -6,7 +6,6 @@ use Rattle.gf32.specs.Field.{product}
 use Rattle.gf32.specs.Exponents.{power_of}
 use Rattle.gf32.proofs.Field.{product_mod_left, product_mod_right, product_zero, zero_product}
 use Rattle.gf32.proofs.Exponents.{log_lt, product_by_exponents}
-use borrow.Author.Rules.{rules}
 use Rattle.gf32.proofs.multiply.Goals as goal
 
 pub returns-then-x-eq0 : goal.returns-then-x-eq0

@@ -2,7 +2,6 @@
 use mathlib.Core.Path.{refl}
 use Rattle.paper.specs.Charset.{charset, letter}
 use Rattle.gf32.specs.Bytes.{character}
-use borrow.Author.Rules.{rules}
 use Rattle.gf32.proofs.to_byte.Goals as goal
 
 pub returns : goal.returns

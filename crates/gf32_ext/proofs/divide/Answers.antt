@@ -2,7 +2,6 @@
 use mathlib.Core.Path.{◌∙◌, ap}
 use Rattle.gf32_ext.specs.declared.Quotient.TheVariants.{Value}
 use Rattle.gf32_ext.proofs.Norm.{none_by_inverse, found_by_inverse}
-use borrow.Author.Rules.{rules}
 use Rattle.gf32_ext.proofs.divide.Goals as goal
 
 pub returns-in_default : goal.returns-in_default

@@ -1,6 +1,5 @@
 -- `gf32_ext::inverse` meets its promise: the conjugate over the norm (proofs/Norm.antt).
 use Rattle.gf32_ext.proofs.Norm.{none_by_norm, found_by_norm}
-use borrow.Author.Rules.{rules}
 use Rattle.gf32_ext.proofs.inverse.Goals as goal
 
 pub returns-in_default : goal.returns-in_default

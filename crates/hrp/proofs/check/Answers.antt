@@ -1,7 +1,6 @@
 -- `check` gives what the definition gives: the two tests of the length in their order, then the bytes.
 use mathlib.Core.Path.{sym}
 use native.Mathlib.Omega.{arith}
-use borrow.Author.Rules.{rules}
 use Rattle.hrp.proofs.Prefix.{empty_4, long_5}
 use Rattle.hrp.proofs.check.Goals as goal
 

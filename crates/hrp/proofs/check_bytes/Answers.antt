@@ -1,10 +1,7 @@
 -- `check_bytes` gives what the definition gives. The invariant: nothing offends before i, and the two flags say which cases came.
-use Prim.Native.Nat.{◌≤◌, ◌-◌}
-use mathlib.Core.Path.{◌≡◌, refl, sym, ◌∙◌}
+use mathlib.Core.Path.{refl, sym, ◌∙◌}
 use borrow.Author.Rules.{rules}
-use borrow.Author.Tests.{not-true, not-false}
-use lib.ListN.{length, drop}
-use Rattle.answers.specs.Rules.{offence_after, offence}
+use Rattle.answers.specs.Rules.{offence}
 use Rattle.hrp.proofs.Prefix.{offence_0, offence_2, offence_6}
 use Rattle.hrp.proofs.Walk.{none_left, not_printable, mixed, more}
 use Rattle.hrp.proofs.check_bytes.Goals as goal

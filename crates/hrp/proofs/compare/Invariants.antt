@@ -1,10 +1,8 @@
 -- `compare` gives what the definition gives. The invariant: no difference before i, so the order of what is left is that of the whole.
 use Prim.Native.Nat.{◌≤◌, ◌-◌}
-use mathlib.Core.Path.{◌≡◌, refl}
-use borrow.Author.Rules.{rules}
+use mathlib.Core.Path.{◌≡◌}
 use lib.ListN.{length, drop}
 use Rattle.hrp.specs.Compare.{order_case_aside}
-use Rattle.hrp.proofs.Ordering.{second_ends, first_ends, both_end, less, greater, more}
 use Rattle.hrp.proofs.compare.Given as goal
 
 abbrev pub invariant-loop-i : goal.invariant-loop-i

@@ -1,10 +1,8 @@
 -- `fill` writes the lower-case bytes to the front of the buffer. The invariant: the first i of them are there, the rest is as it was.
-use Prim.Native.Nat.{◌≤◌, ◌-◌}
-use mathlib.Core.Path.{◌≡◌, refl, ◌∙◌}
-use mathlib.Core.List.{map}
+use mathlib.Core.Path.{refl, ◌∙◌}
 use borrow.Author.Rules.{rules}
-use lib.ListN.{length, length-set}
-use Rattle.laws.proofs.Front.{front, map_more, map_all}
+use lib.ListN.{length-set}
+use Rattle.laws.proofs.Front.{map_more, map_all}
 use Rattle.paper.specs.Charset.{lower}
 use Rattle.hrp.proofs.fill.Goals as goal
 

@@ -1,10 +1,9 @@
 -- `fill` writes the lower-case bytes to the front of the buffer. The invariant: the first i of them are there, the rest is as it was.
 use Prim.Native.Nat.{◌≤◌, ◌-◌}
-use mathlib.Core.Path.{◌≡◌, refl, ◌∙◌}
+use mathlib.Core.Path.{◌≡◌}
 use mathlib.Core.List.{map}
-use borrow.Author.Rules.{rules}
-use lib.ListN.{length, length-set}
-use Rattle.laws.proofs.Front.{front, map_more, map_all}
+use lib.ListN.{length}
+use Rattle.laws.proofs.Front.{front}
 use Rattle.paper.specs.Charset.{lower}
 use Rattle.hrp.proofs.fill.Given as goal
 

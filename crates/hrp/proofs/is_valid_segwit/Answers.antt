@@ -1,6 +1,5 @@
 -- `is_valid_segwit` gives what the definition gives: of the networks the main one and the test ones have segwit's prefixes.
 use mathlib.Core.Path.{ap, sym, ◌∙◌}
-use borrow.Author.Rules.{rules}
 use Rattle.hrp.proofs.Known.{has_segwit, segwit_network}
 use Rattle.hrp.proofs.is_valid_segwit.Goals as goal
 

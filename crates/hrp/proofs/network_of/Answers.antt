@@ -1,6 +1,5 @@
 -- `network_of` gives what the definition gives: the constants' bytes are the quoted texts, and the tests come in the same order.
 use mathlib.Core.Path.{sym, ◌∙◌}
-use borrow.Author.Rules.{rules}
 use Rattle.hrp.proofs.Known.{mainnet, testnet, regtest, unknown}
 use Rattle.hrp.proofs.network_of.Goals as goal
 

@@ -1,6 +1,5 @@
 -- `same` gives what the definition gives: two prefixes are the same exactly if the order finds them equal.
 use mathlib.Core.Path.{ap, sym, ◌∙◌}
-use borrow.Author.Rules.{rules}
 use Rattle.hrp.proofs.Ordering.{is_equal, same_order}
 use Rattle.hrp.proofs.same.Goals as goal
 

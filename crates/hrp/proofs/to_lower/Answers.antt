@@ -1,5 +1,4 @@
 -- `to_lower` keeps its promise: the room is asked first, and only then is anything written.
-use borrow.Author.Rules.{rules}
 use Rattle.hrp.proofs.Writing.{no_room, room}
 use Rattle.hrp.proofs.to_lower.Goals as goal
 

@@ -1,6 +1,5 @@
 -- The count of bytes. What carries it: the length of `to_bytes`, with the multiples of eight taken out first.
 use native.Mathlib.Omega.{arith}
-use borrow.Author.Rules.{rules}
 use Rattle.iter.proofs.Lengths.{bytes_length}
 use Rattle.iter.proofs.bytes_for_symbols.Goals as goal
 

@@ -1,5 +1,4 @@
 -- Too small a room is refused with the buffer as it was; otherwise the symbols stand in front.
-use borrow.Author.Rules.{rules}
 use Rattle.paper.specs.Bits.{to_symbols}
 use Rattle.iter.proofs.Answers.{no_room, room}
 use Rattle.iter.proofs.bytes_to_symbols.Goals as goal

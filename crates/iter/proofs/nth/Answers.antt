@@ -1,6 +1,5 @@
 -- What stands at a place of a slice, and zero past its end.
 use mathlib.Core.Path.{sym}
-use borrow.Author.Rules.{rules}
 use lib.ListN.{get_or-eq_default}
 use Rattle.iter.proofs.nth.Goals as goal
 

@@ -2,7 +2,6 @@
 use mathlib.Core.Path.{◌∙◌, ap}
 use Prim.Native.Nat.{ℕ, ◌%◌}
 use native.Mathlib.Omega.{arith}
-use borrow.Author.Rules.{rules}
 use Rattle.iter.proofs.Places.{first_symbol_in, byte_from}
 use Rattle.iter.proofs.nth_byte.Goals as goal
 

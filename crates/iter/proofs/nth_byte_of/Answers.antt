@@ -3,7 +3,6 @@ use mathlib.Core.Path.{ap, ◌∙◌}
 use mathlib.Core.List.{map}
 use Prim.Native.Nat.{ℕ, ◌%◌}
 use native.Mathlib.Omega.{arith}
-use borrow.Author.Rules.{rules}
 use lib.ListN.{length-map}
 use Rattle.paper.specs.Charset.{symbol}
 use Rattle.iter.proofs.Places.{first_symbol_in, byte_from}

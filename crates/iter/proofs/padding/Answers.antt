@@ -1,6 +1,5 @@
 -- The padding of symbols: none of no symbols, and otherwise that of the count and the last.
 use mathlib.Core.Path.{refl}
-use borrow.Author.Rules.{rules}
 use Rattle.iter.proofs.Leftover.{padding_none}
 use Rattle.iter.proofs.padding.Goals as goal
 

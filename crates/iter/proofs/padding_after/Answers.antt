@@ -1,5 +1,4 @@
 -- The padding from the count and the last symbol. What carries it: the leftover bits are low bits of the last symbol.
-use borrow.Author.Rules.{rules}
 use lib.Pow.{pow_pos}
 use Rattle.iter.proofs.Leftover.{left_of, shifted_one, padding_long_lem, padding_set, padding_clear}
 use Rattle.iter.proofs.padding_after.Goals as goal

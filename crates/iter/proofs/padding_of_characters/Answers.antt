@@ -2,7 +2,6 @@
 use mathlib.Core.Path.{sym, ap, ◌∙◌}
 use mathlib.Core.List.{map}
 use Prim.Native.Nat.{ℕ, ◌%◌}
-use borrow.Author.Rules.{rules}
 use lib.ListN.{length-map}
 use Rattle.paper.specs.Charset.{symbol}
 use Rattle.iter.proofs.Leftover.{padding_none}

@@ -1,10 +1,8 @@
 -- The symbols, put into the buffer one a turn.
 -- The invariant: the buffer is the list up to `at`, and from there on what it was. The measure is what is left of the count.
-use mathlib.Core.Path.{◌≡◌, refl}
-use Prim.Native.Nat.{◌≤◌, ◌-◌}
+use mathlib.Core.Path.{refl}
 use borrow.Author.Rules.{rules}
-use lib.ListN.{length, length-set}
-use Rattle.laws.proofs.Front.{front}
+use lib.ListN.{length-set}
 use Rattle.paper.specs.Bits.{to_symbols}
 use Rattle.iter.proofs.Answers.{put_more, put_all}
 use Rattle.iter.proofs.put_symbols.Goals as goal

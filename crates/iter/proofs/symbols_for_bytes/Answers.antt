@@ -1,6 +1,5 @@
 -- The count of symbols. What carries it: the length of `to_symbols`, with the multiples of five taken out first.
 use native.Mathlib.Omega.{arith}
-use borrow.Author.Rules.{rules}
 use Rattle.iter.proofs.Lengths.{symbols_length}
 use Rattle.iter.proofs.symbols_for_bytes.Goals as goal
 

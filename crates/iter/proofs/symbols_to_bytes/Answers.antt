@@ -1,5 +1,4 @@
 -- Too small a room is refused with the buffer as it was; otherwise the bytes stand in front.
-use borrow.Author.Rules.{rules}
 use Rattle.paper.specs.Bits.{to_bytes}
 use Rattle.iter.proofs.Answers.{no_room, room}
 use Rattle.iter.proofs.symbols_to_bytes.Goals as goal

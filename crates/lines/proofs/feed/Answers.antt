@@ -1,7 +1,6 @@
 -- `feed` keeps its promise.
 -- A line buffer under 91 bytes is left alone; otherwise take_bytes has done what the definition says, and what it took says whether it was stuck.
 use Rattle.lines.proofs.Steps.{fed_short, fed_empty, fed_stuck, fed_on}
-use borrow.Author.Rules.{rules}
 use Rattle.lines.proofs.feed.Goals as goal
 
 pub returns-then-line-lt-KEPT : goal.returns-then-line-lt-KEPT

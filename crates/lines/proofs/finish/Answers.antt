@@ -1,7 +1,6 @@
 -- `finish` keeps its promise.
 -- One law of Steps for each way out: no line buffer, no line, no room, an answer.
 use Rattle.lines.proofs.Steps.{finish_short, finish_none, finish_full, finish_answered}
-use borrow.Author.Rules.{rules}
 use Rattle.lines.proofs.finish.Goals as goal
 
 pub returns-then-line-lt-KEPT : goal.returns-then-line-lt-KEPT

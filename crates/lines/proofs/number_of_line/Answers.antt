@@ -4,7 +4,6 @@ use native.Mathlib.Omega.{arith}
 use lib.Seq.{length-take-le}
 use mathlib.Core.Path.{sym, ap, ◌∙◌}
 use Rattle.answers.specs.Numbers.{number_of_address}
-use borrow.Author.Rules.{rules}
 use Rattle.lines.proofs.number_of_line.Goals as goal
 
 pub slice_bounds-check_address-end : goal.slice_bounds-check_address-end

@@ -1,11 +1,7 @@
 -- `take_bytes` goes through the input as the definition does.
 -- The invariant: what is left of the input, from where the loop stands, gives what the whole input gives from the start.
 use Rattle.lines.proofs.Steps.{digits_length, kept_turn, answered_turn, stopped, all_taken, went_here}
-use Prim.Native.Nat.{◌≤◌, ◌-◌}
-use mathlib.Core.Path.{◌≡◌}
 use native.Mathlib.Omega.{arith}
-use lib.ListN.{length, drop}
-use Rattle.lines.specs.Feeding.{standing, fed_from}
 use borrow.Author.Rules.{rules}
 use Rattle.lines.proofs.take_bytes.Goals as goal
 

@@ -1,9 +1,7 @@
 -- A coefficient, or zero past the end.
 use mathlib.Core.Path.{sym}
-use Prim.Native.Nat.{◌-◌}
 use native.Mathlib.Omega.{arith}
 use lib.ListN.{get_or-eq_default}
-use borrow.Author.Rules.{rules}
 use Rattle.polynomial.proofs.coefficient_at.Goals as goal
 
 pub overflow_cast-result : goal.overflow_cast-result

@@ -1,9 +1,8 @@
 -- A coefficient of a product, term by term. The invariant: the terms passed are summed up.
-use mathlib.Core.Path.{◌≡◌, ◌∙◌}
-use Prim.Native.Nat.{◌+◌, ◌-◌, ◌≤◌}
+use mathlib.Core.Path.{◌∙◌}
 use native.Mathlib.Omega.{arith}
 use borrow.Author.Rules.{rules}
-use Rattle.polynomial.proofs.Coefficients.{part_sum, part_none, part_more, part_all}
+use Rattle.polynomial.proofs.Coefficients.{part_none, part_more, part_all}
 use Rattle.polynomial.proofs.coefficient_of.Goals as goal
 
 pub loop-i-init : goal.loop-i-init

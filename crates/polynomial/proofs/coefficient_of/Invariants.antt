@@ -1,9 +1,7 @@
 -- A coefficient of a product, term by term. The invariant: the terms passed are summed up.
-use mathlib.Core.Path.{◌≡◌, ◌∙◌}
+use mathlib.Core.Path.{◌≡◌}
 use Prim.Native.Nat.{◌+◌, ◌-◌, ◌≤◌}
-use native.Mathlib.Omega.{arith}
-use borrow.Author.Rules.{rules}
-use Rattle.polynomial.proofs.Coefficients.{part_sum, part_none, part_more, part_all}
+use Rattle.polynomial.proofs.Coefficients.{part_sum}
 use Rattle.polynomial.proofs.coefficient_of.Given as goal
 
 abbrev pub invariant-loop-i : goal.invariant-loop-i

@@ -1,9 +1,7 @@
 -- Coefficients of a product, made from zeros. The invariant: as many as were passed stand in their places.
-use mathlib.Core.Path.{◌≡◌, refl, sym, ◌∙◌}
-use Prim.Native.Nat.{◌-◌, ◌≤◌}
+use mathlib.Core.Path.{refl, sym, ◌∙◌}
 use native.Mathlib.Omega.{arith}
-use Rattle.laws.proofs.Front.{front}
-use Rattle.fieldvec.proofs.Build.{zeros, fill_more}
+use Rattle.fieldvec.proofs.Build.{fill_more}
 use Rattle.fieldvec.proofs.Stored.{narrowed_whole}
 use Rattle.polynomial.specs.Products.{coefficients_from}
 use borrow.Author.Rules.{rules}

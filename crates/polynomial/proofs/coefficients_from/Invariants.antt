@@ -1,13 +1,9 @@
 -- Coefficients of a product, made from zeros. The invariant: as many as were passed stand in their places.
-use mathlib.Core.Path.{◌≡◌, refl, sym, ◌∙◌}
+use mathlib.Core.Path.{◌≡◌}
 use Prim.Native.Nat.{◌-◌, ◌≤◌}
-use native.Mathlib.Omega.{arith}
 use Rattle.laws.proofs.Front.{front}
-use Rattle.fieldvec.proofs.Build.{zeros, fill_more}
-use Rattle.fieldvec.proofs.Stored.{narrowed_whole}
+use Rattle.fieldvec.proofs.Build.{zeros}
 use Rattle.polynomial.specs.Products.{coefficients_from}
-use borrow.Author.Rules.{rules}
-use Rattle.polynomial.proofs.Coefficients.{coefficient_lt, from_length, from_at, from_filled}
 use Rattle.polynomial.proofs.coefficients_from.Given as goal
 
 abbrev pub invariant-loop-j : goal.invariant-loop-j

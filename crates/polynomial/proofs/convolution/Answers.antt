@@ -1,12 +1,8 @@
 -- `convolution` meets its promise, test by test.
-use mathlib.Core.Path.{◌≡◌, ap}
-use native.Mathlib.Omega.{arith}
+use mathlib.Core.Path.{ap}
 use borrow.Author.Tests.{lt-ltb, le-ltb}
-use lib.ListN.{length, length-map}
 use Rattle.fieldvec.specs.Lists.{accepted}
-use Rattle.fieldvec.proofs.Laws.{prefix_length, prefix_short}
 use Rattle.polynomial.specs.Answers.{convolution_of}
-use borrow.Author.Rules.{rules}
 use Rattle.polynomial.proofs.convolution.Goals as goal
 
 pub returns-then-n-gt-CAPACITY : goal.returns-then-n-gt-CAPACITY

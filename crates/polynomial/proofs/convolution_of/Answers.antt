@@ -2,7 +2,6 @@
 use mathlib.Core.Path.{sym, ap}
 use Rattle.fieldvec.specs.Lists.{listed}
 use Rattle.polynomial.proofs.Coefficients.{convolved_none, convolved_made}
-use borrow.Author.Rules.{rules}
 use Rattle.polynomial.proofs.convolution_of.Goals as goal
 
 pub returns-then-s-d : goal.returns-then-s-d

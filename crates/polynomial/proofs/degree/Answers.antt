@@ -1,12 +1,8 @@
 -- `degree` meets its promise, test by test.
 use Rattle.polynomial.specs.declared.Exponent.TheVariants.{Value}
 use Rattle.polynomial.specs.Answers.{degree_of}
-use mathlib.Core.Path.{◌≡◌, ap}
-use native.Mathlib.Omega.{arith}
+use mathlib.Core.Path.{ap}
 use borrow.Author.Tests.{lt-ltb, le-ltb}
-use lib.ListN.{length, length-map}
-use Rattle.fieldvec.proofs.Laws.{prefix_length}
-use borrow.Author.Rules.{rules}
 use Rattle.polynomial.proofs.degree.Goals as goal
 
 pub returns-then-n-gt-CAPACITY : goal.returns-then-n-gt-CAPACITY

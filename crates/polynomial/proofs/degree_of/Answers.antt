@@ -1,10 +1,9 @@
 -- The degree, looked for from the end. The invariant: what was passed is zero.
 use mathlib.Core.Path.{◌≡◌, sym, ap, ◌∙◌}
-use mathlib.Core.Bool.{true}
-use Prim.Native.Nat.{ℕ, suc, ◌-◌, ◌≤◌, ◌%◌}
+use Prim.Native.Nat.{ℕ, suc, ◌-◌, ◌%◌}
 use native.Mathlib.Omega.{arith}
 use borrow.Author.Tests.{eq-eqb}
-use lib.ListN.{length, drop, get_or}
+use lib.ListN.{drop, get_or}
 use lib.Seq.{drop-length}
 use Rattle.laws.specs.Lists.{all}
 use Rattle.polynomial.specs.Polynomials.{is_zero}

@@ -1,12 +1,11 @@
 -- The derivative's coefficients, made from zeros, and then without the zeros at the end. The invariant: as many as were passed stand in
 -- their places.
-use mathlib.Core.Path.{◌≡◌, refl, sym, ap, ◌∙◌}
-use Prim.Native.Nat.{◌+◌, ◌-◌, ◌≤◌}
+use mathlib.Core.Path.{refl, sym, ap, ◌∙◌}
+use Prim.Native.Nat.{◌+◌}
 use native.Mathlib.Omega.{arith}
-use lib.ListN.{length, drop}
-use Rattle.laws.proofs.Front.{front}
+use lib.ListN.{drop}
 use Rattle.fieldvec.specs.Lists.{listed}
-use Rattle.fieldvec.proofs.Build.{zeros, fill_more}
+use Rattle.fieldvec.proofs.Build.{fill_more}
 use Rattle.fieldvec.proofs.Stored.{narrowed_whole}
 use Rattle.polynomial.specs.Polynomials.{multiples, derivative}
 use borrow.Author.Rules.{rules}

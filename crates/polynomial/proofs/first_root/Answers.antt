@@ -6,7 +6,6 @@ use Rattle.fieldvec.specs.Lists.{elements}
 use Rattle.polynomial.specs.declared.Root.TheVariants.{At}
 use Rattle.polynomial.specs.Answers.{root_from, first_root}
 use Rattle.polynomial.proofs.Chien.{root_nowhere}
-use borrow.Author.Rules.{rules}
 use Rattle.polynomial.proofs.first_root.Goals as goal
 
 pub returns-then-n-gt-CAPACITY : goal.returns-then-n-gt-CAPACITY

@@ -1,12 +1,8 @@
 -- `formal_derivative` meets its promise, test by test.
-use mathlib.Core.Path.{◌≡◌, ap}
-use native.Mathlib.Omega.{arith}
+use mathlib.Core.Path.{ap}
 use borrow.Author.Tests.{lt-ltb, le-ltb}
-use lib.ListN.{length, length-map}
 use Rattle.fieldvec.specs.Lists.{accepted}
-use Rattle.fieldvec.proofs.Laws.{prefix_length, prefix_short}
 use Rattle.polynomial.specs.Answers.{derivative_of}
-use borrow.Author.Rules.{rules}
 use Rattle.polynomial.proofs.formal_derivative.Goals as goal
 
 pub returns-then-n-gt-CAPACITY : goal.returns-then-n-gt-CAPACITY

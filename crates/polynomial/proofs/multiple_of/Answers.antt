@@ -1,6 +1,5 @@
 -- A multiple in characteristic 2.
 use mathlib.Core.Path.{sym}
-use Prim.Native.Nat.{◌-◌}
 use Rattle.polynomial.proofs.Values.{multiple_even, multiple_odd}
 use Rattle.polynomial.proofs.multiple_of.Goals as goal
 

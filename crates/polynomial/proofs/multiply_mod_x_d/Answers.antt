@@ -1,11 +1,6 @@
 -- `multiply_mod_x_d` meets its promise, test by test.
-use mathlib.Core.Path.{◌≡◌}
-use native.Mathlib.Omega.{arith}
 use borrow.Author.Tests.{lt-ltb, le-ltb}
-use lib.ListN.{length, length-map}
-use Rattle.fieldvec.proofs.Laws.{prefix_length, prefix_short}
 use Rattle.polynomial.specs.Answers.{product_of}
-use borrow.Author.Rules.{rules}
 use Rattle.polynomial.proofs.multiply_mod_x_d.Goals as goal
 
 pub returns-then-n-gt-CAPACITY : goal.returns-then-n-gt-CAPACITY

@@ -1,12 +1,11 @@
 -- The product of two polynomials, or that it is too long (proofs/Coefficients.antt).
-use Prim.Native.Nat.{◌-◌, ℕ, ◌+◌}
+use Prim.Native.Nat.{◌-◌, ℕ}
 use mathlib.Core.List.{◌++◌}
 use lib.ListN.{replicate}
 use Rattle.polynomial.specs.Products.{coefficients_from}
 use mathlib.Core.Path.{sym, ap, ◌∙◌}
 use Rattle.fieldvec.specs.Lists.{accepted}
 use Rattle.polynomial.proofs.Coefficients.{product_long, product_fits}
-use borrow.Author.Rules.{rules}
 use Rattle.polynomial.proofs.product_of.Goals as goal
 
 pub returns-then-rest_is_zero : goal.returns-then-rest_is_zero

@@ -1,11 +1,9 @@
 -- Whether nothing stands from the seventh place on. The invariant: what is left has the answer of the whole.
-use mathlib.Core.Path.{◌≡◌, refl, sym, ap, ◌∙◌}
-use Prim.Native.Nat.{◌-◌, ◌≤◌}
+use mathlib.Core.Path.{refl, sym, ap, ◌∙◌}
 use native.Mathlib.Nat.{zero-add}
 use native.Mathlib.Omega.{arith}
 use borrow.Author.Tests.{eq-eqb, ne_eqb}
-use lib.ListN.{drop, get_or}
-use Rattle.laws.specs.Lists.{all}
+use lib.ListN.{get_or}
 use Rattle.laws.proofs.Lists.{all_more, all_stop, all_done}
 use Rattle.polynomial.specs.Products.{coefficient, coefficients_from}
 use borrow.Author.Rules.{rules}

@@ -1,15 +1,9 @@
 -- Whether nothing stands from the seventh place on. The invariant: what is left has the answer of the whole.
-use mathlib.Core.Path.{◌≡◌, refl, sym, ap, ◌∙◌}
+use mathlib.Core.Path.{◌≡◌}
 use Prim.Native.Nat.{◌-◌, ◌≤◌}
-use native.Mathlib.Nat.{zero-add}
-use native.Mathlib.Omega.{arith}
-use borrow.Author.Tests.{eq-eqb, ne_eqb}
-use lib.ListN.{drop, get_or}
+use lib.ListN.{drop}
 use Rattle.laws.specs.Lists.{all}
-use Rattle.laws.proofs.Lists.{all_more, all_stop, all_done}
-use Rattle.polynomial.specs.Products.{coefficient, coefficients_from}
-use borrow.Author.Rules.{rules}
-use Rattle.polynomial.proofs.Coefficients.{from_length, from_at}
+use Rattle.polynomial.specs.Products.{coefficients_from}
 use Rattle.polynomial.proofs.Trim.{none}
 use Rattle.polynomial.proofs.rest_is_zero.Given as goal
 

@@ -1,18 +1,14 @@
 -- The search for a root. The invariant: the terms kept are those at the base's power e, whatever polynomial the first ones came of, and its
 -- first root from e on is its first root from the start.
 use mathlib.Core.Path.{◌≡◌, refl, sym, ap, ◌∙◌}
-use mathlib.Core.List.{List}
-use Prim.Native.Nat.{ℕ, ◌-◌, ◌≤◌}
+use Prim.Native.Nat.{ℕ}
 use native.Mathlib.Omega.{arith}
-use lib.ListN.{length, length-map}
-use Rattle.laws.specs.Lists.{table}
+use lib.ListN.{length}
 use Rattle.gf32_ext.specs.Field.{power}
-use Rattle.fieldvec.specs.declared.FieldVec.{FieldVec}
 use Rattle.fieldvec.specs.declared.Changed.{Changed}
-use Rattle.fieldvec.specs.Lists.{elements, listed, powers_given}
+use Rattle.fieldvec.specs.Lists.{elements, powers_given}
 use Rattle.fieldvec.proofs.Laws.{prefix_length, powers_accepted}
-use Rattle.polynomial.specs.Answers.{root_from}
-use Rattle.polynomial.proofs.Chien.{kept, kept_size, first_kept, root_nowhere, root_end, root_turn}
+use Rattle.polynomial.proofs.Chien.{kept_size, first_kept, root_nowhere, root_end, root_turn}
 use borrow.Author.Rules.{rules}
 use Rattle.polynomial.proofs.root_from.Invariants.{Reached}
 use Rattle.polynomial.proofs.root_from.Goals as goal

@@ -1,8 +1,8 @@
 -- The sum of the elements, which is the value at 1. The invariant: what was passed is summed up.
 use mathlib.Core.Path.{◌≡◌, sym, ap, ◌∙◌}
-use Prim.Native.Nat.{ℕ, ◌-◌, ◌≤◌}
+use Prim.Native.Nat.{ℕ, ◌-◌}
 use native.Mathlib.Omega.{arith}
-use lib.ListN.{length, drop, get_or}
+use lib.ListN.{drop, get_or}
 use lib.Seq.{drop-length}
 use Rattle.gf32_ext.specs.Field.{sum}
 use Rattle.polynomial.specs.Polynomials.{value_at}

@@ -1,13 +1,8 @@
 -- The sum of the elements, which is the value at 1. The invariant: what was passed is summed up.
-use mathlib.Core.Path.{◌≡◌, sym, ap, ◌∙◌}
-use Prim.Native.Nat.{ℕ, ◌-◌, ◌≤◌}
-use native.Mathlib.Omega.{arith}
-use lib.ListN.{length, drop, get_or}
-use lib.Seq.{drop-length}
-use Rattle.gf32_ext.specs.Field.{sum}
+use mathlib.Core.Path.{◌≡◌}
+use Prim.Native.Nat.{◌≤◌}
+use lib.ListN.{length, drop}
 use Rattle.polynomial.specs.Polynomials.{value_at}
-use borrow.Author.Rules.{rules}
-use Rattle.polynomial.proofs.Values.{value_none, total_more}
 use Rattle.polynomial.proofs.total_of.Given as goal
 
 abbrev pub invariant-loop-n : goal.invariant-loop-n

@@ -1,8 +1,8 @@
 -- Horner's rule. The invariant: the value of what was passed, as a polynomial of its own.
 use mathlib.Core.Path.{◌≡◌, sym, ap, ◌∙◌}
-use Prim.Native.Nat.{ℕ, ◌-◌, ◌≤◌}
+use Prim.Native.Nat.{ℕ, ◌-◌}
 use native.Mathlib.Omega.{arith}
-use lib.ListN.{length, drop, get_or}
+use lib.ListN.{drop, get_or}
 use lib.Seq.{drop-length}
 use Rattle.gf32_ext.specs.Field.{sum, product}
 use Rattle.polynomial.specs.Polynomials.{value_at}

@@ -1,15 +1,11 @@
 -- `zero_is_root` meets its promise: the value at zero is the constant term.
-use mathlib.Core.Path.{◌≡◌, sym, ap, ◌∙◌}
-use native.Mathlib.Omega.{arith}
+use mathlib.Core.Path.{sym, ap, ◌∙◌}
 use borrow.Author.Tests.{eq-eqb, ne_eqb, lt-ltb, le-ltb}
-use lib.ListN.{length, length-map}
 use Rattle.fieldvec.specs.Lists.{elements}
-use Rattle.fieldvec.proofs.Laws.{prefix_length}
 use Prim.Native.Nat.{ℕ, ◌%◌}
 use Rattle.polynomial.specs.Polynomials.{value_at}
 use Rattle.polynomial.specs.Answers.{zero_is_root}
 use Rattle.polynomial.proofs.Values.{value_at_zero}
-use borrow.Author.Rules.{rules}
 use Rattle.polynomial.proofs.zero_is_root.Goals as goal
 
 pub returns-then-n-gt-CAPACITY : goal.returns-then-n-gt-CAPACITY

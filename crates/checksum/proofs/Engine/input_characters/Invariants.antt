@@ -1,12 +1,10 @@
 -- Characters, two a turn and the odd one last. The invariant: what is left of them takes the residue to where all take the start.
-use mathlib.Core.Path.{◌≡◌, refl, ◌∙◌}
+use mathlib.Core.Path.{◌≡◌}
 use mathlib.Core.List.{map}
 use Prim.Native.Nat.{◌-◌, ◌≤◌}
-use borrow.Author.Rules.{rules}
 use lib.ListN.{length, drop}
 use Rattle.paper.specs.Charset.{symbol}
 use Rattle.paper.specs.Checksum.{polymod}
-use Rattle.checksum.proofs.Polymod.{mapped, two_more, last_one, no_more}
 use Rattle.checksum.proofs.Engine.input_characters.Given as goal
 
 abbrev pub invariant-loop-i : goal.invariant-loop-i

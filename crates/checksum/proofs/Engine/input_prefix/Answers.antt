@@ -2,7 +2,6 @@
 use mathlib.Core.Path.{ap, ◌∙◌}
 use mathlib.Core.List.{map}
 use Prim.Native.Nat.{ℕ}
-use borrow.Author.Rules.{rules}
 use Rattle.paper.specs.Charset.{lower}
 use Rattle.paper.specs.Checksum.{step, polymod}
 use Rattle.checksum.specs.Parameters.{low}

@@ -1,9 +1,6 @@
 -- The symbols, two a turn and the odd one last. The invariant: what is left of them takes the residue to where all take the start.
-use mathlib.Core.Path.{◌≡◌, refl, ◌∙◌}
-use Prim.Native.Nat.{◌-◌, ◌≤◌}
+use mathlib.Core.Path.{refl, ◌∙◌}
 use borrow.Author.Rules.{rules}
-use lib.ListN.{length, drop}
-use Rattle.paper.specs.Checksum.{polymod}
 use Rattle.checksum.proofs.Polymod.{plain, two_more, last_one, no_more}
 use Rattle.checksum.proofs.Engine.input_symbols.Goals as goal
 

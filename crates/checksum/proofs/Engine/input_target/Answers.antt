@@ -1,5 +1,4 @@
 -- The six symbols of the constant, two at a time. What carries it: `six_steps`.
-use borrow.Author.Rules.{rules}
 use Rattle.checksum.proofs.Six.{six_steps}
 use Rattle.checksum.proofs.Engine.input_target.Goals as goal
 

@@ -1,5 +1,4 @@
 -- The paper's step, by its own mask and shift. What carries it: `masked_up`, and what `mix` ensures.
-use borrow.Author.Rules.{rules}
 use native.Mathlib.Omega.{arith}
 use Rattle.laws.specs.Xor.{◌⊕◌}
 use Rattle.paper.specs.Checksum.{step}

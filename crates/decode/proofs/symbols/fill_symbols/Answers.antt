@@ -1,11 +1,9 @@
 -- The symbols of the characters, one store a turn. The invariant: the first i of them are there, the rest is as it was.
-use mathlib.Core.Path.{◌≡◌, refl, ◌∙◌}
-use mathlib.Core.List.{map}
-use Prim.Native.Nat.{◌≤◌, ◌-◌}
+use mathlib.Core.Path.{refl, ◌∙◌}
 use native.Mathlib.Omega.{arith}
 use borrow.Author.Rules.{rules}
-use lib.ListN.{length, get_or, length-set}
-use Rattle.laws.proofs.Front.{front, map_more, map_all}
+use lib.ListN.{get_or, length-set}
+use Rattle.laws.proofs.Front.{map_more, map_all}
 use Rattle.paper.specs.Charset.{symbol}
 use Rattle.gf32.proofs.ClassLaws.{class_read}
 use Rattle.decode.proofs.symbols.fill_symbols.Goals as goal

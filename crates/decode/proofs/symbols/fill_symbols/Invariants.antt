@@ -1,13 +1,10 @@
 -- The symbols of the characters, one store a turn. The invariant: the first i of them are there, the rest is as it was.
-use mathlib.Core.Path.{◌≡◌, refl, ◌∙◌}
+use mathlib.Core.Path.{◌≡◌}
 use mathlib.Core.List.{map}
 use Prim.Native.Nat.{◌≤◌, ◌-◌}
-use native.Mathlib.Omega.{arith}
-use borrow.Author.Rules.{rules}
-use lib.ListN.{length, get_or, length-set}
-use Rattle.laws.proofs.Front.{front, map_more, map_all}
+use lib.ListN.{length}
+use Rattle.laws.proofs.Front.{front}
 use Rattle.paper.specs.Charset.{symbol}
-use Rattle.gf32.proofs.ClassLaws.{class_read}
 use Rattle.decode.proofs.symbols.fill_symbols.Given as goal
 
 abbrev pub invariant-loop-i : goal.invariant-loop-i

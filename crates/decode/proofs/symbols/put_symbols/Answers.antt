@@ -4,7 +4,6 @@ use mathlib.Core.List.{map}
 use lib.ListN.{length, length-map}
 use Rattle.paper.specs.Charset.{symbol}
 use Rattle.iter.proofs.Answers.{no_room, room}
-use borrow.Author.Rules.{rules}
 use Rattle.decode.proofs.symbols.put_symbols.Goals as goal
 
 pub returns-then-out-characters : goal.returns-then-out-characters

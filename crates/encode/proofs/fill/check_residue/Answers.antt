@@ -1,6 +1,5 @@
 -- The residue's six symbols are the checksum: what an engine shows that took in the prefix, the symbols and the target.
 use Rattle.encode.proofs.Filling.{engine_shows}
-use borrow.Author.Rules.{rules}
 use Rattle.encode.proofs.fill.check_residue.Goals as goal
 
 pub returns : goal.returns

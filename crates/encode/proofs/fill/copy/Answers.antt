@@ -1,9 +1,7 @@
 -- `copy` puts the symbols to the front of the buffer. The invariant: the first i are there, the rest is as it was.
-use mathlib.Core.Path.{◌≡◌, refl}
-use Prim.Native.Nat.{◌≤◌, ◌-◌}
+use mathlib.Core.Path.{refl}
 use borrow.Author.Rules.{rules}
-use lib.ListN.{length, length-set}
-use Rattle.laws.proofs.Front.{front}
+use lib.ListN.{length-set}
 use Rattle.iter.proofs.Answers.{put_more, put_all}
 use Rattle.encode.proofs.fill.copy.Goals as goal
 

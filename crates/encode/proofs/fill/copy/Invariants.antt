@@ -1,10 +1,8 @@
 -- `copy` puts the symbols to the front of the buffer. The invariant: the first i are there, the rest is as it was.
-use mathlib.Core.Path.{◌≡◌, refl}
+use mathlib.Core.Path.{◌≡◌}
 use Prim.Native.Nat.{◌≤◌, ◌-◌}
-use borrow.Author.Rules.{rules}
-use lib.ListN.{length, length-set}
+use lib.ListN.{length}
 use Rattle.laws.proofs.Front.{front}
-use Rattle.iter.proofs.Answers.{put_more, put_all}
 use Rattle.encode.proofs.fill.copy.Given as goal
 
 abbrev pub invariant-loop-i : goal.invariant-loop-i

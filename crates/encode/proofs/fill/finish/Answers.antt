@@ -5,7 +5,6 @@ use lib.ListN.{take, drop, length, length-drop}
 use lib.Seq.{length-take-le}
 use Rattle.checksum.specs.Parameters.{constant_for}
 use Rattle.encode.proofs.Filling.{string_written, length_kept}
-use borrow.Author.Rules.{rules}
 use Rattle.encode.proofs.fill.finish.Goals as goal
 
 pub returns : goal.returns

@@ -1,12 +1,9 @@
 -- `put_check` puts the six symbols of the residue to the front of the buffer. The invariant: the first i are there, the rest is as it was.
-use mathlib.Core.Path.{◌≡◌, refl, sym, ◌∙◌}
+use mathlib.Core.Path.{◌≡◌}
 use Prim.Native.Nat.{◌≤◌, ◌-◌}
-use borrow.Author.Rules.{rules}
-use lib.ListN.{length, length-set}
+use lib.ListN.{length}
 use Rattle.laws.proofs.Front.{front}
-use Rattle.iter.proofs.Answers.{put_more, put_all}
 use Rattle.paper.specs.Checksum.{six_symbols}
-use Rattle.checksum.proofs.Six.{six_at}
 use Rattle.encode.proofs.fill.put_check.Given as goal
 
 abbrev pub invariant-loop-i : goal.invariant-loop-i

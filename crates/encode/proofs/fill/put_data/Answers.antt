@@ -1,6 +1,5 @@
 -- `put_data` lays the checksum behind the symbols and turns all of them into letters.
 use Rattle.encode.proofs.Filling.{letters_count, data_written}
-use borrow.Author.Rules.{rules}
 use Rattle.encode.proofs.fill.put_data.Goals as goal
 
 pub slice_bounds-to_letters-end-2 : goal.slice_bounds-to_letters-end-2

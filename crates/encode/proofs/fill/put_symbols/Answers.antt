@@ -4,7 +4,6 @@ use Prim.Native.Nat.{◌+◌}
 use lib.ListN.{length}
 use Rattle.checksum.specs.Parameters.{constant_for}
 use Rattle.encode.proofs.Laying.{laid_rest, laid_ready, laid_finished}
-use borrow.Author.Rules.{rules}
 use Rattle.encode.proofs.fill.put_symbols.Goals as goal
 
 pub finish-requires : goal.finish-requires

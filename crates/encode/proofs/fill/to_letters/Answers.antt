@@ -1,10 +1,8 @@
 -- `to_letters` turns each symbol into its character. The invariant: the first i are turned, the rest is as it was.
-use mathlib.Core.Path.{◌≡◌, refl, ◌∙◌}
-use mathlib.Core.List.{map}
-use Prim.Native.Nat.{◌≤◌, ◌-◌}
+use mathlib.Core.Path.{refl, ◌∙◌}
 use borrow.Author.Rules.{rules}
-use lib.ListN.{length, length-set}
-use Rattle.laws.proofs.Front.{front, in_place}
+use lib.ListN.{length-set}
+use Rattle.laws.proofs.Front.{in_place}
 use Rattle.gf32.specs.Bytes.{character}
 use Rattle.encode.proofs.Filling.{whole_mapped}
 use Rattle.encode.proofs.fill.to_letters.Goals as goal

@@ -1,12 +1,10 @@
 -- `to_letters` turns each symbol into its character. The invariant: the first i are turned, the rest is as it was.
-use mathlib.Core.Path.{◌≡◌, refl, ◌∙◌}
+use mathlib.Core.Path.{◌≡◌}
 use mathlib.Core.List.{map}
 use Prim.Native.Nat.{◌≤◌, ◌-◌}
-use borrow.Author.Rules.{rules}
-use lib.ListN.{length, length-set}
-use Rattle.laws.proofs.Front.{front, in_place}
+use lib.ListN.{length}
+use Rattle.laws.proofs.Front.{front}
 use Rattle.gf32.specs.Bytes.{character}
-use Rattle.encode.proofs.Filling.{whole_mapped}
 use Rattle.encode.proofs.fill.to_letters.Given as goal
 
 abbrev pub invariant-loop-i : goal.invariant-loop-i

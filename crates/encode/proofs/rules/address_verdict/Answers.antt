@@ -3,7 +3,6 @@ use mathlib.Core.Path.{sym, ◌∙◌}
 use native.Mathlib.Omega.{arith}
 use Rattle.iter.proofs.Lengths.{symbols_length}
 use Rattle.encode.proofs.Orders.{prefix_short, address_refused, version_refused, length_refused, address_sized}
-use borrow.Author.Rules.{rules}
 use Rattle.encode.proofs.rules.address_verdict.Goals as goal
 
 pub returns-in-Refused : goal.returns-in-Refused

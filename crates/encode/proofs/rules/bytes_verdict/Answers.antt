@@ -2,7 +2,6 @@
 use mathlib.Core.Path.{sym, ◌∙◌}
 use native.Mathlib.Omega.{arith}
 use Rattle.encode.proofs.Orders.{prefix_short, bytes_refused, bytes_sized}
-use borrow.Author.Rules.{rules}
 use Rattle.encode.proofs.rules.bytes_verdict.Goals as goal
 
 pub returns-in-Refused : goal.returns-in-Refused

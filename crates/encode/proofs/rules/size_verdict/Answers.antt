@@ -1,6 +1,5 @@
 -- `size_verdict` gives what the definition gives: symbols beyond what the limit leaves are a string over the limit.
 use native.Mathlib.Omega.{arith}
-use borrow.Author.Rules.{rules}
 use Rattle.encode.proofs.Sizes.{over_limit, over_room, fits}
 use Rattle.encode.proofs.rules.size_verdict.Goals as goal
 

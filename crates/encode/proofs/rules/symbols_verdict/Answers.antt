@@ -2,7 +2,6 @@
 use mathlib.Core.Path.{sym, ◌∙◌}
 use native.Mathlib.Omega.{arith}
 use Rattle.encode.proofs.Orders.{prefix_short, symbols_refused, symbols_large, symbols_sized}
-use borrow.Author.Rules.{rules}
 use Rattle.encode.proofs.rules.symbols_verdict.Goals as goal
 
 pub returns-in-Refused : goal.returns-in-Refused

@@ -1,11 +1,7 @@
 -- `FieldVec::equal` meets its promise, test by test.
-use mathlib.Core.Path.{◌≡◌, sym, ◌∙◌}
-use native.Mathlib.Omega.{arith}
+use mathlib.Core.Path.{sym, ◌∙◌}
 use borrow.Author.Tests.{lt-ltb, le-ltb}
-use lib.ListN.{length, length-map}
-use Rattle.fieldvec.proofs.Laws.{prefix_length}
 use Rattle.fieldvec.specs.Lists.{compared}
-use borrow.Author.Rules.{rules}
 use Rattle.fieldvec.proofs.FieldVec.equal.Goals as goal
 
 pub returns-then-n-gt-CAPACITY : goal.returns-then-n-gt-CAPACITY

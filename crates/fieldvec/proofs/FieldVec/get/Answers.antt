@@ -1,7 +1,6 @@
 -- `FieldVec::get` meets its promise, test by test.
 use borrow.Author.Tests.{le-leb, lt-leb, lt-ltb, le-ltb}
 use Rattle.fieldvec.specs.Lists.{got}
-use borrow.Author.Rules.{rules}
 use Rattle.fieldvec.proofs.FieldVec.get.Goals as goal
 
 pub returns-then-n-gt-CAPACITY : goal.returns-then-n-gt-CAPACITY

@@ -1,12 +1,9 @@
 -- `FieldVec::multiply_pointwise` meets its promise, test by test.
 use Prim.Native.Nat.{ℕ}
 use Rattle.fieldvec.specs.Lists.{listed, pointwise, accepted, multiplied_pointwise}
-use mathlib.Core.Path.{◌≡◌, sym, ap, ◌∙◌}
-use native.Mathlib.Omega.{arith}
+use mathlib.Core.Path.{ap, ◌∙◌}
 use borrow.Author.Tests.{eq-eqb, ne_eqb, lt-ltb, le-ltb}
-use lib.ListN.{length, take, length-map}
-use Rattle.fieldvec.proofs.Laws.{prefix_length, prefix_short}
-use borrow.Author.Rules.{rules}
+use lib.ListN.{take}
 use Rattle.fieldvec.proofs.FieldVec.multiply_pointwise.Goals as goal
 
 pub returns-then-n-other : goal.returns-then-n-other

@@ -1,7 +1,6 @@
 -- `FieldVec::pop` meets its promise, test by test.
 use borrow.Author.Tests.{eq-eqb, ne_eqb, lt-ltb, le-ltb}
 use Rattle.fieldvec.specs.Lists.{popped_back}
-use borrow.Author.Rules.{rules}
 use Rattle.fieldvec.proofs.FieldVec.pop.Goals as goal
 
 pub returns-then-n-eq0 : goal.returns-then-n-eq0

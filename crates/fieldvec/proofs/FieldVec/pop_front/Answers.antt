@@ -1,14 +1,13 @@
 -- `FieldVec::pop_front` meets its promise, test by test.
 use Prim.Native.Nat.{ℕ, ◌%◌}
-use lib.ListN.{get_or, length, length-map}
+use lib.ListN.{get_or}
 use Rattle.fieldvec.specs.declared.FieldVec.{FieldVec}
 use Rattle.fieldvec.specs.declared.Popped.{Popped}
 use Rattle.fieldvec.specs.Lists.{listed, popped_front}
 use Rattle.fieldvec.proofs.Laws.{part_after}
-use mathlib.Core.Path.{◌≡◌, ap, ◌∙◌}
+use mathlib.Core.Path.{ap, ◌∙◌}
 use native.Mathlib.Omega.{arith}
 use borrow.Author.Tests.{eq-eqb, ne_eqb, lt-ltb, le-ltb}
-use borrow.Author.Rules.{rules}
 use Rattle.fieldvec.proofs.FieldVec.pop_front.Goals as goal
 
 abbrev popped_with : ℕ → FieldVec → Popped

@@ -1,7 +1,6 @@
 -- `FieldVec::push` meets its promise, test by test.
 use borrow.Author.Tests.{le-leb, lt-leb}
 use Rattle.fieldvec.specs.Lists.{pushed}
-use borrow.Author.Rules.{rules}
 use Rattle.fieldvec.proofs.FieldVec.push.Goals as goal
 
 pub returns-then-at-ge-CAPACITY : goal.returns-then-at-ge-CAPACITY

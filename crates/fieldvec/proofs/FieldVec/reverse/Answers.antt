@@ -1,11 +1,7 @@
 -- `FieldVec::reverse` meets its promise, test by test.
-use Rattle.fieldvec.proofs.Laws.{prefix_length, prefix_short}
-use mathlib.Core.Path.{◌≡◌, ap}
-use native.Mathlib.Omega.{arith}
+use mathlib.Core.Path.{ap}
 use borrow.Author.Tests.{lt-ltb, le-ltb}
-use lib.ListN.{length, length-map}
 use Rattle.fieldvec.specs.Lists.{accepted, reversed}
-use borrow.Author.Rules.{rules}
 use Rattle.fieldvec.proofs.FieldVec.reverse.Goals as goal
 
 pub returns-then-n-gt-CAPACITY : goal.returns-then-n-gt-CAPACITY

@@ -1,5 +1,4 @@
 -- A step over bytes: the end past the last symbol, and before it the symbol there and the next place.
-use borrow.Author.Rules.{rules}
 use Rattle.iter.proofs.Answers.{no_symbol, a_symbol}
 use Rattle.iter.proofs.BytesToSymbols.next.Goals as goal
 

@@ -1,5 +1,4 @@
 -- A step over symbols: the end past the last byte, and before it the byte there and the next place.
-use borrow.Author.Rules.{rules}
 use Rattle.iter.proofs.Answers.{no_byte, a_byte}
 use Rattle.iter.proofs.SymbolsToBytes.next.Goals as goal
 
