@@ -85,7 +85,7 @@ def judge(root, report, status, lines):
     bad = re.findall(r"^rt: (?:must-fail )?(\S+?): BAD EDIT: (.*)", text, re.M)
     for name, why in bad:
         report.fail(file_of(name.removesuffix(".edit")) if name.count("/") == 1 else name, f"BAD EDIT: {why}")
-    stated = re.search(r"must-fail edits: .*?, (\d+) bad", said)
+    stated = re.search(r"must-fail edits: [^;]*, (\d+) bad", said)
     if stated and int(stated[1]) != len(bad):
         report.fail("rt ci", f"it counts {stated[1]} bad edits, and tells of {len(bad)}")
     failed = {name for name, _ in names}

@@ -38,7 +38,7 @@ class Ensured:
 
 def is_outcome(argument):
     name, *path = argument.split(".")
-    return name == "result" or path[:1] and path[0] in AFTER
+    return name == "result" or bool(path) and path[0] in AFTER
 
 
 def ensured(function):
