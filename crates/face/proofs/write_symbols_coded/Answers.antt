@@ -1,0 +1,13 @@
+-- Each code is its checksum, and any other is 28.
+use Rattle.face.proofs.Outcomes.{write_bech32, write_bech32m, write_unknown}
+use borrow.Author.Rules.{rules}
+use Rattle.face.proofs.write_symbols_coded.Goals as goal
+
+pub returns-then-code-eq-BECH32 : goal.returns-then-code-eq-BECH32
+returns-then-code-eq-BECH32 c = write_bech32 _ _ _ _ _ _ c.if-code-eq-BECH32.true c.write_symbols.ensures
+
+pub returns-then-code-eq-BECH32M : goal.returns-then-code-eq-BECH32M
+returns-then-code-eq-BECH32M c = write_bech32m _ _ _ _ _ _ c.if-code-eq-BECH32.false c.if-code-eq-BECH32M.true c.write_symbols-then-code-eq-BECH32M.ensures
+
+pub returns : goal.returns
+returns c = write_unknown _ _ _ _ c.if-code-eq-BECH32.false c.if-code-eq-BECH32M.false
