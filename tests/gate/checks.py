@@ -17,9 +17,9 @@ class Repository:
 
     def __init__(self, root):
         tables = [("docs/PROMISES.md", lists.CRATES), ("docs/PROMISES.md", lists.PROMISES),
-                  ("docs/PROMISES.md", lists.EDITS), ("docs/EXCEPTIONS.md", lists.EXCEPTIONS)]
+                  ("docs/PROMISES.md", lists.EXPORTS), ("docs/PROMISES.md", lists.EDITS), ("docs/EXCEPTIONS.md", lists.EXCEPTIONS)]
         read = [lists.crates_listed(root)] + [lists.table(root, file, shape) for file, shape in tables]
-        self.listed, self.crates, self.rows, self.edits, self.open = (found for found, _ in read)
+        self.listed, self.crates, self.rows, self.exports, self.edits, self.open = (found for found, _ in read)
         self.problems = list(dict.fromkeys(problem for _, problems in read for problem in problems))
 
         folder = root / "crates"
@@ -76,9 +76,9 @@ def knows(root, report):
 
     public = {function.name for function in repository.functions}
     for function in repository.functions:
-        known = function.name in repository.rows
+        known = function.name in repository.rows or function.name in repository.exports
         report.expect(known, place_of(function), f"{function.name} has no row in docs/PROMISES.md")
-    for name, (place, _) in [*repository.rows.items(), *repository.open.items()]:
+    for name, (place, _) in [*repository.rows.items(), *repository.exports.items(), *repository.open.items()]:
         report.expect(name in public, place, f"there is no public function {name}")
 
 
@@ -119,7 +119,7 @@ def promises(root, report):
     """Every public function says all that it does, to one answer, and wrong answers were tried."""
     repository = Repository(root)
     for function in repository.functions:
-        report.check(contract_problems(function) + row_problems(repository, function))
+        report.check(contract_problems(function) + row_problems(repository, function) + export_problems(root, repository, function))
     for crate, declared in repository.declared.items():
         wrong = [f"{d.module} gives {d.name} another meaning" for d in declared if d.name in statements.FIXED]
         wrong += [f"enum {name} has no value" for name in sources.empty_enums(root, crate)]
@@ -154,6 +154,24 @@ def row_problems(repository, function):
     wrong += uniqueness_problems(repository, function.name, crate, said, once)
     wrong += wrong_answer_problems(repository, function.name, crate, promise, wrong_answers)
     return [(place, what) for what in wrong]
+
+
+def export_problems(root, repository, function):
+    """What is wrong with the row of a function that a static library hands on to C: it promises, word for word, what a function below promises."""
+    if function.name not in repository.exports:
+        return []
+    place, (name,) = repository.exports[function.name]
+    if not prover.is_static(root, function.name.split("::")[0]):
+        return [(place, f"{function.name} is of no static library, so it needs a promise of its own")]
+    other = next((f for f in repository.functions if f.name == name and name in repository.rows), None)
+    if not other:
+        return [(place, f"there is no public function {name} that has a row")]
+
+    def said(f):
+        ensured = statements.ensured(f)
+        return ensured and (f.parameters, f.lent, f.result, ensured, f.brought.get(ensured.promise))
+
+    return [] if said(function) and said(function) == said(other) else [(place, f"{function.name} does not promise what {name} promises")]
 
 
 def uniqueness_problems(repository, name, crate, said, once):
