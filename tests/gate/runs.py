@@ -17,11 +17,10 @@ from .checks import NO_RT, file_of
 LISTED = "tests/gate/parts.txt"
 
 
-def live(command, root, **environment):
+def live(command, root):
     """Runs a command and shows what it writes as it comes: (status, lines)."""
     lines = []
-    with subprocess.Popen(command, cwd=root, stdout=subprocess.PIPE, stderr=subprocess.STDOUT, encoding="utf-8", errors="replace",
-                          env={**environment, **os.environ}) as run:
+    with subprocess.Popen(command, cwd=root, stdout=subprocess.PIPE, stderr=subprocess.STDOUT, encoding="utf-8", errors="replace") as run:
         for line in run.stdout:
             print(line, end="")
             lines.append(line.rstrip("\n"))
@@ -36,14 +35,11 @@ def count_of(lines):
 
 # ---- proves
 
-CI = ["rt", "ci"]
-
-
 def proves(root, report):
     """rt ci, the kit's gate: every crate proved, every must-fail edit refused, every program run. Then what rt ci does not compare, over kept work."""
     if not shutil.which("rt"):
         return report.fail(*NO_RT)
-    status, lines = timed(report, "rt-ci", lambda: live(CI, root))
+    status, lines = timed(report, "rt-ci", lambda: live(["rt", "ci"], root))
     judge(root, report, status, lines)
     over_kept(root, report)
 
