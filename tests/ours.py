@@ -1,4 +1,5 @@
-"""Our functions, called as C calls them: c/pennywax.c over the static libraries of the crates face and batch."""
+"""Our programs and our functions, as tests find them: the programs as rt builds them, the functions called as C calls them, by c/pennywax.c over the
+static libraries out/libface.a and out/libbatch.a."""
 
 import ctypes
 import os
@@ -7,31 +8,30 @@ import subprocess
 from pathlib import Path
 
 ROOT = Path(__file__).resolve().parents[1]
+OUT = ROOT / "out"
 SHIM = ROOT / "c/pennywax.c"
-ARCHIVES = [ROOT / f"target/staticlib/lib{crate}.a" for crate in ("face", "batch")]
+ARCHIVES = [OUT / f"lib{name}.a" for name in ("face", "batch")]
 GCC = ["gcc", "-std=c99", "-Wall", "-Wextra", "-Werror", "-pedantic", "-O2"]
 BECH32, BECH32M = 1, 2
 ENTRY = struct.Struct("@NNBBN")  # start, length, verdict, version, program length, laid out as C lays out a struct
 BESIDE = b"\xaa" * ENTRY.size    # what lies before a lent list of entries, and after it
 
 
-def fresh(made, sources):
-    """It stands, and is newer than all that it is made of."""
-    return made.exists() and made.stat().st_mtime > max(source.stat().st_mtime for source in sources)
-
-
 def archives():
-    """The static libraries, proved if they are not proved yet."""
-    sources = [ROOT / "crates.txt", *(ROOT / "crates").rglob("*.rt"), *(ROOT / "crates").rglob("*.antt")]
-    for archive in ARCHIVES:
-        if fresh(archive, sources):
-            continue
-        crate = archive.stem.removeprefix("lib")
-        made = subprocess.run(["rt", "staticlib", crate], cwd=ROOT, capture_output=True, encoding="utf-8")
-        if made.returncode:
-            raise RuntimeError(f"rt staticlib {crate}: " + (made.stdout + made.stderr)[-2000:])
-        archive.touch()  # rt leaves a library that has not changed as it is
+    """The static libraries, proved and built if they are not as the sources are."""
+    made = subprocess.run([ROOT / "tools/staticlib"], capture_output=True, encoding="utf-8", errors="replace")
+    if made.returncode:
+        raise RuntimeError("tools/staticlib: " + (made.stdout + made.stderr)[-2000:])
     return ARCHIVES
+
+
+def program(crate):
+    """The program of a crate, proved and built if it is not as the sources are. rt builds a program where it runs it, here on an empty input."""
+    made = subprocess.run(["rt", "run"], cwd=ROOT / "crates" / crate, stdin=subprocess.DEVNULL, capture_output=True, encoding="utf-8", errors="replace")
+    found = ROOT / f"crates/{crate}/out/{crate}"
+    if made.returncode or not found.is_file():
+        raise RuntimeError(f"rt run in crates/{crate}: " + (made.stdout + made.stderr)[-2000:])
+    return found
 
 
 def link(shim, shared):
@@ -51,7 +51,7 @@ class Ours:
     """Each method gives the number and what else the function gives; a buffer that is written is filled with 0xAA before, and given back whole."""
 
     def __init__(self):
-        self.library = link(SHIM, ROOT / "target/staticlib/libpennywax.so")
+        self.library = link(SHIM, OUT / "libpennywax.so")
         self.version, self.first, self.second = ctypes.c_uint8(), ctypes.c_size_t(), ctypes.c_size_t()
 
     def check_address(self, s):

@@ -9,7 +9,7 @@ from . import edits, lists, prover, sources, statements
 NO_RT = ("rt", "it is not on PATH: install the Rattle kit, or add its bin folder to PATH")
 
 # The files that rt reads of a crate. One of another kind would be taken for checked, and is not.
-FILES = re.compile(r"src/.+\.rt|(?:specs|proofs)/.+\.antt|must-fail/[\w-]+\.edit|stdin|stdout|args|data/.+")
+FILES = re.compile(r"src/.+\.rt|(?:specs|proofs)/.+\.antt|must-fail/[\w-]+\.edit|stdin|stdout|args|status|data/.+")
 
 
 class Repository:
@@ -17,13 +17,13 @@ class Repository:
 
     def __init__(self, root):
         tables = [("docs/PROMISES.md", lists.CRATES), ("docs/PROMISES.md", lists.PROMISES),
-                  ("docs/PROMISES.md", lists.EDITS), ("docs/EXCEPTIONS.md", lists.EXCEPTIONS)]
+                  ("docs/PROMISES.md", lists.EXPORTS), ("docs/PROMISES.md", lists.EDITS), ("docs/EXCEPTIONS.md", lists.EXCEPTIONS)]
         read = [lists.crates_listed(root)] + [lists.table(root, file, shape) for file, shape in tables]
-        self.listed, self.crates, self.rows, self.edits, self.open = (found for found, _ in read)
+        self.listed, self.crates, self.rows, self.exports, self.edits, self.open = (found for found, _ in read)
         self.problems = list(dict.fromkeys(problem for _, problems in read for problem in problems))
 
         folder = root / "crates"
-        self.files = [path.relative_to(folder).as_posix() for path in sorted(folder.rglob("*")) if not path.is_dir()]
+        self.files = [path.relative_to(folder).as_posix() for path in sorted(sources.files(root))]
         self.folders = sorted(path.name for path in folder.glob("*") if path.is_dir())
         self.functions = [f for crate in self.folders for f in sources.functions(root, crate) if f.public]
         self.declared = {crate: sources.declarations(root, crate) for crate in self.folders}
@@ -44,17 +44,18 @@ class Repository:
 # ---- formats
 
 def formats(root, report):
+    """Every file is in the layout of rt fmt. The prover's own command is asked, since rt fmt changes what it finds."""
     if not shutil.which("rt"):
         return report.fail(*NO_RT)
-    run = subprocess.run(["rt", "fmt", "--check"], cwd=root, capture_output=True, encoding="utf-8", errors="replace")
-    said = (run.stdout + run.stderr).replace(f"{root}/", "").split("\n")
-    wrong = [line for line in said if line.strip()] if run.returncode else []
+    files = [path.relative_to(root).as_posix() for path in sorted(sources.files(root)) if path.suffix in (".rt", ".antt")]
+    run = subprocess.run([prover.kit() / "bin/rattle", "fmt", "--check", *files], cwd=root, stdout=subprocess.DEVNULL, stderr=subprocess.PIPE,
+                         encoding="utf-8", errors="replace")
+    wrong = [line for line in run.stderr.split("\n") if line.strip()] if run.returncode else []
     for line in wrong:
-        place, _, what = line.partition(" ")
-        report.fail(place.rstrip(":"), what)
+        place = next((file for file in files if line.startswith((f"{file} ", f"{file}:"))), None)
+        report.fail(*((place, line.removeprefix(place).lstrip(": ")) if place else ("rattle fmt --check", line)))
     if run.returncode and not wrong:
-        report.fail("rt fmt --check", f"it ended with status {run.returncode}")
-    files = [path for path in (root / "crates").rglob("*") if path.suffix in (".rt", ".antt")]
+        report.fail("rattle fmt --check", f"it ended with status {run.returncode}")
     report.passed += max(0, len(files) - len(wrong))
 
 
@@ -75,9 +76,9 @@ def knows(root, report):
 
     public = {function.name for function in repository.functions}
     for function in repository.functions:
-        known = function.name in repository.rows
+        known = function.name in repository.rows or function.name in repository.exports
         report.expect(known, place_of(function), f"{function.name} has no row in docs/PROMISES.md")
-    for name, (place, _) in [*repository.rows.items(), *repository.open.items()]:
+    for name, (place, _) in [*repository.rows.items(), *repository.exports.items(), *repository.open.items()]:
         report.expect(name in public, place, f"there is no public function {name}")
 
 
@@ -96,11 +97,11 @@ def crate_problems(repository, crate):
 
 
 def edge_problems(root, repository, crate, place):
-    """The crates below that nothing of a crate names: `other::` or `use other` in its code, `Rattle·other.` in code or antt."""
-    files = [path for path in (root / "crates" / crate).rglob("*") if path.suffix in (".rt", ".antt")]
+    """The crates below that nothing of a crate names: `other::` or `use other` in its code, `Rattle.other.` in code or antt."""
+    files = [path for path in sources.files(root, crate) if path.suffix in (".rt", ".antt")]
     text = "\n".join(sources.read_without(sources.RATTLE_SILENT if path.suffix == ".rt" else sources.ANTT_SILENT, path) for path in files)
     return [(place, f"{crate} names nothing of {other}") for other in prover.crates(root)[crate]
-            if other in repository.folders and not re.search(rf"\b{other}::|\buse {other}\b|Rattle·{other}\.", text)]
+            if other in repository.folders and not re.search(rf"\b{other}::|\buse {other}\b|Rattle\.{other}\.", text)]
 
 
 def place_of(function):
@@ -118,7 +119,7 @@ def promises(root, report):
     """Every public function says all that it does, to one answer, and wrong answers were tried."""
     repository = Repository(root)
     for function in repository.functions:
-        report.check(contract_problems(function) + row_problems(repository, function))
+        report.check(contract_problems(function) + row_problems(repository, function) + export_problems(root, repository, function))
     for crate, declared in repository.declared.items():
         wrong = [f"{d.module} gives {d.name} another meaning" for d in declared if d.name in statements.FIXED]
         wrong += [f"enum {name} has no value" for name in sources.empty_enums(root, crate)]
@@ -146,13 +147,31 @@ def row_problems(repository, function):
         return []
     place, (promise, once, wrong_answers) = repository.rows[function.name]
     crate, said = function.name.split("::")[0], statements.ensured(function)
-    home = f"Rattle·{crate}·specs.specs.Promises.{promise}"
+    home = f"Rattle.{crate}.specs.Promises.{promise}"
     if not said or said.promise != promise or function.brought.get(promise) != home:
         return [(place, f"the ensures of {function.name} is not {promise} of specs/Promises")]
     wrong = [f"{promise} {what}" for what in statements.promise_problems(repository.declared[crate], said)]
     wrong += uniqueness_problems(repository, function.name, crate, said, once)
     wrong += wrong_answer_problems(repository, function.name, crate, promise, wrong_answers)
     return [(place, what) for what in wrong]
+
+
+def export_problems(root, repository, function):
+    """What is wrong with the row of a function that a static library hands on to C: it promises, word for word, what a function below promises."""
+    if function.name not in repository.exports:
+        return []
+    place, (name,) = repository.exports[function.name]
+    if not prover.is_static(root, function.name.split("::")[0]):
+        return [(place, f"{function.name} is of no static library, so it needs a promise of its own")]
+    other = next((f for f in repository.functions if f.name == name and name in repository.rows), None)
+    if not other:
+        return [(place, f"there is no public function {name} that has a row")]
+
+    def said(f):
+        ensured = statements.ensured(f)
+        return ensured and (f.parameters, f.lent, f.result, ensured, f.brought.get(ensured.promise))
+
+    return [] if said(function) and said(function) == said(other) else [(place, f"{function.name} does not promise what {name} promises")]
 
 
 def uniqueness_problems(repository, name, crate, said, once):
@@ -218,17 +237,17 @@ def edit_problems(root, repository, name, functions):
     if any(not file.startswith("src/" if functions else ("src/", "specs/")) for file, _, _ in edit.changes):
         found.append(f"it changes {'more than the code' if functions else 'no definition'}")
     for stated in edit.refused_at:
-        words, need = stated.split(), ""
+        words, goal = stated.split(), ""
         if words[:1] == ["fn"] and len(words) == 3:
-            need = words[2]
+            goal = words[2]
             found += function_problems(root, edit, words, functions)
         elif len(words) == 2 and re.fullmatch(r"(?:specs|proofs)/\S+\.antt", words[0]):
-            need = edits.need_of(root / "crates" / edit.crate / words[0], words[1])
+            goal = edits.goal_of(root / "crates" / edit.crate / words[0], words[1])
             found += file_problems(root, repository, edit, words, functions)
         else:
-            found.append(f"expected `# refused at: FILE DECLARATION` or `# refused at: fn NAME NEED`, found `{stated}`")
-        if edits.SAFETY.fullmatch(need):
-            found.append(f"it is refused for safety, at {need}, and not for what it changes")
+            found.append(f"expected `# refused at: FILE DECLARATION` or `# refused at: fn NAME GOAL`, found `{stated}`")
+        if edits.is_safety(root, goal):
+            found.append(f"it is refused for safety, at {goal}, and not for what it changes")
     return found
 
 
@@ -249,19 +268,20 @@ def file_problems(root, repository, edit, words, functions):
 
 
 def rests_on(root, function, file):
-    """A file is the function's own proof, or one that this proof takes laws from, directly or not. Another function's proof is neither."""
+    """A file is of the function's own proof, or one that this proof takes laws from, directly or not. Another function's proof is neither."""
     crate, *path = function.split("::")
-    own = f"proofs/{'/'.join(path)}/Proof.antt"
-    if file == own or file.endswith("/Proof.antt"):
-        return file == own
-    found, todo = set(), [own]
+    own = [f"proofs/{'/'.join(path)}/{name}" for name in sources.PROOFS]
+    if file in own or file.endswith(tuple(f"/{name}" for name in sources.PROOFS)):
+        return file in own
+    attributes = next((f.attributes for f in sources.functions(root, crate) if f.name == function), "")
+    todo = own + [f"{part}/{module.replace('::', '/')}.antt" for part, module in re.findall(r"\bcrate::(specs|proofs)::((?:\w+::)*\w+)::", attributes)]
+    found = set()
     while todo:
         at = todo.pop()
         if at not in found and (root / "crates" / crate / at).is_file():
             found.add(at)
             text = sources.read_without(sources.ANTT_SILENT, root / "crates" / crate / at)
-            todo += [f"{part}/{module.replace('.', '/')}.antt" for part, module in
-                     re.findall(rf"\buse\s+Rattle·{crate}·(?:specs|proofs)\.(specs|proofs)\.([\w.]*\w)", text)]
+            todo += [f"{part}/{module.replace('.', '/')}.antt" for part, module in re.findall(rf"\buse\s+Rattle\.{crate}\.(specs|proofs)\.([\w.]*\w)", text)]
     return file in found
 
 

@@ -1,7 +1,7 @@
-"""Must-fail edits: what one says, where the prover's first error must stand, and the trial of one over proved modules.
+"""Must-fail edits: what one says, where the prover's first error must stand, and the trial of one over what its crate's own check kept.
 
-    # refused at: proofs/push/Proof.antt returns-2     the file, and the declaration that the first error stands in; or
-    # refused at: fn FieldVec::new returns             a function that has no proof file, and the need that is left open
+    # refused at: proofs/push/Answers.antt returns     the file, and the declaration that the first error stands in; or
+    # refused at: fn FieldVec::new returns             a function, and the goal of it that has no answer and that the search left open
     # harmless: a text in place of the first `new:`    with which the crate is still proved (a second line for the second `new:`, and so on)
 """
 
@@ -10,17 +10,19 @@ import shutil
 import time
 from dataclasses import dataclass
 
-from . import prover
+from . import prover, sources
 from .sources import NAME, read
 
 # What the prover says when the code no longer has the shape that the proof was written for. Such an edit shows nothing of the promise.
-SHAPE = re.compile(r"error: .*(?:has no field|has no `?Need-|can be named from here|not in scope|"
-                   r"expected type `tie\.[^`]+`, but this has type `tie\.|"
-                   r"where one has `\S*\.Lts\.(?:Start|Else\d*|Then\d*|After-[\w-]+)`)")
+SHAPE = re.compile(r"error: .*(?:has no field|has no `[^`]*` that can be named|can be named from here|not in scope|"
+                   r"expected type `(?:tie|goal)\.[^`]+`, but this has type `(?:tie|goal)\.|"
+                   r"where one has `\S*\.Lts\.(?:Start|Else\S*|Then-\S+|In[-_]\S+|After-\S+)`)")
 
-# Needs that only keep the machine safe: what an operation, an index, a part or a cast asks. `add-requires` is what a call of `add` asks.
-SAFETY = re.compile(r"(?!.*-requires(?:-\d+)?$)(?:add|sub|mul|div|rem|shl|shr|cast|int-to-float|float-to-\w+|slice|shared-slice|array|element|"
-                    r"way|index|part|same-length|same-references|val-home)(?:-.*)?")
+# Goals that only keep the machine safe: what an operation, a cast, an index or a range asks.
+SAFETY = re.compile(r"(?:overflow_(?:add|sub|mul|shl|shr|cast|step)|nonzero_(?:div|rem)|bounds|slice_bounds|offset_bounds)(?:-.*)?")
+
+# What a call asks: the name of the called function first. Where that is none of ours, it is the library's, which asks no more than safety.
+ASKED = re.compile(r"(\w+)-(?:.*-)?requires(?:-.*)?")
 
 
 @dataclass
@@ -63,22 +65,28 @@ def edits(root, crate):
 class Refusal:
     file: str     # `fn` for a function that has no proof file
     name: str     # the declaration, or the function as crate::module::name
-    need: str     # the need that it answers, if it does
+    goal: str     # the goal that it answers, if it does
 
     def __str__(self):
-        return f"fn {self.name.partition('::')[2]} {self.need}" if self.file == "fn" else f"{self.file} {self.name}"
+        return f"fn {self.name.partition('::')[2]} {self.goal}" if self.file == "fn" else f"{self.file} {self.name}"
 
 
 def first_refusal(text, place):
     """What the prover's first error is about. `place` is where the edited crate lies."""
-    for line in text.split("\n"):
-        error = re.match(rf"(\S+?):(\d+):\d+: error: (?:`({NAME})`: )?", line)
+    lines = text.split("\n")
+    for at, line in enumerate(lines):
+        error = re.match(rf"(?:\./)?(\S+?):(\d+):\d+: (?:error(?:\[[\w-]+\])?: (?:`({NAME})`: )?|`({NAME})` is not admitted)", line)
         if error:
-            file = error[1].removeprefix(f"{place}/")
-            name = error[3] or declaration_at(place / file, int(error[2]))
-            return Refusal(file, name, need_of(place / file, name))
-    unproved = re.search(r"^fn (\S+): no proof: .*`search` does not close `([^`]*)`", text, re.M)
-    return Refusal("fn", unproved[1], unproved[2]) if unproved else None
+            name = error[3] or error[4] or declaration_at(place / error[1], int(error[2]))
+            return Refusal(error[1], name, goal_of(place / error[1], name))
+        left = re.match(r"note: (?:\./)?src/\S+?:\d+:\d+: it is not proved that .*?\(`([^`]+)`\)", line)
+        unproved = re.match(r"fn (\S+): (?:not proved|no proof)(?:.*did not prove `([^`]+)`)?", line)
+        if left:  # the line of its function follows
+            functions = (re.match(r"fn (\S+): (?:not proved|no proof)", later) for later in lines[at:])
+            return Refusal("fn", next((found[1] for found in functions if found), ""), left[1])
+        if unproved:
+            return Refusal("fn", unproved[1], unproved[2] or "")
+    return None
 
 
 def declaration_at(path, line):
@@ -88,13 +96,23 @@ def declaration_at(path, line):
     return next((head[1] for head in reversed(heads) if head and not head[1].startswith("--")), "")
 
 
-def need_of(path, name):
-    """The need that a declaration of a proof answers, `add-i` where its signature has `tie.Need-add-i`; none for any other declaration."""
-    found = re.search(rf"^{re.escape(name)}\s+:\s.*?\bNeed-([\w-]+)", read(path), re.M) if path.is_file() else None
+def goal_of(path, name):
+    """The goal that a declaration answers: `returns` where its signature has `goal.returns`, or `tie.Need-returns`; none for any other declaration."""
+    found = re.search(rf"^(?:pub\s+)?{re.escape(name)}\s+:\s.*?\b(?:goal\.|Need-)([^\s(){{}}.;,]+)", read(path), re.M) if path.is_file() else None
     return found[1] if found else ""
 
 
-def refusal_problems(edit, text, place):
+def function_names(root):
+    return {function.name.split("::")[-1] for crate in prover.crates(root) for function in sources.functions(root, crate)}
+
+
+def is_safety(root, goal):
+    """A goal keeps only the machine safe: by its name, or since it is what a function of the library asks."""
+    asked = ASKED.fullmatch(goal)
+    return bool(asked and asked[1] not in function_names(root)) or not asked and bool(SAFETY.fullmatch(goal))
+
+
+def refusal_problems(root, edit, text, place):
     """The prover's first error stands where the edit says, and for the fact that was changed."""
     refusal = first_refusal(text, place)
     if not refusal:
@@ -105,14 +123,14 @@ def refusal_problems(edit, text, place):
     shape = SHAPE.search(text)
     if shape:
         found.append(f"it is refused for its shape: {shape[0].removeprefix('error: ')}")
-    if SAFETY.fullmatch(refusal.need):
-        found.append(f"it is refused for safety, at {refusal.need}, and not for what it changes")
+    if is_safety(root, refusal.goal):
+        found.append(f"it is refused for safety, at {refusal.goal}, and not for what it changes")
     return found
 
 
 def same_place(stated, refusal):
     if refusal.file == "fn":
-        return len(stated) == 3 and stated[0] == "fn" and ends_in(refusal.name, stated[1]) and stated[2] == refusal.need
+        return len(stated) == 3 and stated[0] == "fn" and ends_in(refusal.name, stated[1]) and stated[2] == refusal.goal
     return stated == [refusal.file, refusal.name]
 
 
@@ -121,7 +139,7 @@ def ends_in(function, name):
     return f"::{function}".endswith(f"::{name}")
 
 
-# ---- tried over proved modules
+# ---- tried over what was kept
 
 @dataclass
 class Trial:
@@ -133,9 +151,9 @@ class Trial:
 
 
 def tried(root, edit, work, harmless=False):
-    """An edit, or its harmless neighbour, in a copy of the crate and over the crate's checked modules."""
+    """An edit, or its harmless neighbour, in a copy of the crate and over what the crate's own check kept."""
     place = work / edit.name / ("harmless" if harmless else "edit")
-    for part in ("src", "specs", "proofs"):
+    for part in sources.PARTS:
         if (root / "crates" / edit.crate / part).is_dir():
             shutil.copytree(root / "crates" / edit.crate / part, place / part)
     changes = [(file, old, new) for (file, old, _), new in zip(edit.changes, edit.harmless)] if harmless else edit.changes
@@ -147,7 +165,7 @@ def tried(root, edit, work, harmless=False):
         if not (prover.proved if harmless else prover.refused)(status, text):
             unlike = [f"NOT {'ACCEPTED' if harmless else 'REFUSED'} (exit {status})"]
         elif not harmless:
-            problems = refusal_problems(edit, text, place)
+            problems = refusal_problems(root, edit, text, place)
     took = time.monotonic() - began
     shutil.rmtree(place)
     told = "; ".join(unlike + problems) or ("accepted" if harmless else "refused") + ", as it must be"

@@ -16,16 +16,17 @@ WRONG = rf"(?:edit:[\w-]+|theorem:{THEOREM})"
 CRATES = {"crate": CRATE, "holds": ".+"}
 PROMISES = {"function": FUNCTION, "promise": NAME, "one answer": f"open: .+|{THEOREM}",
             "wrong answers ruled out": f"(?:{WRONG}(?:, *{WRONG})*)?"}
+EXPORTS = {"exported": FUNCTION, "promises what is promised by": FUNCTION}
 EDITS = {"edit": rf"{CRATE}/[\w-]+", "refused by": THEOREM}
 EXCEPTIONS = {"function": FUNCTION, "what is open": ".+", "why": ".+"}
 
 
 def crates_listed(root):
-    """crates.txt, a line `NAME: DEP DEP ..` for each crate: {name: place}."""
+    """crates.txt, a line `NAME: DEP DEP ..` for each crate, of a static library `NAME staticlib: DEP ..`: {name: place}."""
     found, problems = {}, []
     for place, line in lines_of(root, "crates.txt", problems):
         line = line.split("#")[0].strip()
-        entry = re.fullmatch(rf"({CRATE})\s*:(?:\s*{CRATE})*", line)
+        entry = re.fullmatch(rf"({CRATE})(?:\s+staticlib)?\s*:(?:\s*{CRATE})*", line)
         if line and not entry:
             problems.append((place, f"expected `NAME: DEP DEP ..`, found `{line}`"))
         elif line and entry[1] in found:

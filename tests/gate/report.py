@@ -5,6 +5,7 @@ import traceback
 from pathlib import Path
 
 RECORD = "docs/gate.txt"
+OLDER = "# These figures are of an older kit"
 SHOWN = 10
 
 
@@ -14,7 +15,8 @@ class Report:
         self.part = ""
         self.passed = self.failed = self.skipped = 0
         self.failures = []  # the lines that begin with FAIL
-        self.costs = {"part": {}, "crate": {}, "edit": {}}  # seconds by name
+        self.costs = {"part": {}, "step": {}, "crate": {}, "edit": {}}  # seconds by name
+        self.kept = None    # what rt all check said in this run
         self.checks = {}    # how many each part made
 
     def run(self, name, part, root):
@@ -51,23 +53,29 @@ class Report:
         print("== seconds  checks  part")
         for name, took in self.costs["part"].items():
             print(f"{took:10.1f}{self.checks[name]:8}  {name}")
-        for kind in ("crate", "edit"):
+        for kind in ("step", "crate", "edit"):
             dearest = sorted(self.costs[kind].items(), key=lambda cost: -cost[1])[:SHOWN]
             if dearest:
                 print(f"== the dearest {kind}s, of {len(self.costs[kind])} in {sum(self.costs[kind].values()):.0f} s")
                 print("\n".join(f"{took:10.1f}  {name}" for name, took in dearest))
         if self.mode != "quick":
-            print("\n".join(compared(recorded(root), self)))
+            print("\n".join([f"== {RECORD} has figures of an older kit, with which nothing is compared"] if is_older(root) else compared(recorded(root), self)))
         if self.failures:
             print("== what failed")
             print("\n".join(self.failures))
         if self.mode != "ci":
-            print(f"This was ./test --{self.mode}. It is no verdict of the kit: that is ./test, which proves everything and tries every edit from nothing.")
+            print(f"This was ./test --{self.mode}. It is no verdict of the kit: that is ./test, which runs rt ci.")
         print(f"{self.passed} passed, {self.failed} failed" + (f", {self.skipped} skipped" if self.skipped else ""))
         return 1 if self.failed else 0
 
 
 # ---- the record: a line `MODE KIND NAME SECONDS` for each cost, and `MODE part NAME SECONDS CHECKS`
+
+def is_older(root):
+    """A record of an older kit is compared with nothing, and the first new one takes its place."""
+    path = root / RECORD
+    return path.is_file() and any(line.startswith(OLDER) for line in path.read_text(encoding="utf-8").split("\n"))
+
 
 def recorded(root):
     """{(mode, kind, name): [seconds, checks if it is a part]}"""
@@ -78,7 +86,8 @@ def recorded(root):
 
 def record(root, report):
     """Writes what this run cost, and keeps what other modes cost."""
-    kept = [" ".join([*key, *(f"{number:g}" for number in numbers)]) for key, numbers in recorded(root).items() if key[0] != report.mode]
+    old = {} if is_older(root) else recorded(root)
+    kept = [" ".join([*key, *(f"{number:g}" for number in numbers)]) for key, numbers in old.items() if key[0] != report.mode]
     own = [f"{report.mode} {kind} {name} {took:g}" + (f" {report.checks[name]}" if kind == "part" else "")
            for kind, costs in report.costs.items() for name, took in costs.items()]
     head = "# What the gate cost when ./test --record last ran: mode, kind, name, seconds, and of a part its checks. docs/GATE.md says more."

@@ -1,30 +1,31 @@
 """A repository as small as the gate allows: two proved functions, a program over them, and a test.
 
-It stands here as text, since rt proves every file of Rattle or antt that it finds in a repository.
+It stands here as text, since rt refuses every file of Rattle or antt that stands in no crate.
 """
 
 import shutil
 
-SOURCE, SPECS = "crates/sample/src/lib.rt", "crates/sample/specs/Promises.antt"
+SOURCE, SPECS, LAWS = "crates/sample/src/lib.rt", "crates/sample/specs/Promises.antt", "crates/sample/proofs/Excluded.antt"
 ZERO, BEFORE, PART = "crates/sample/must-fail/zero.edit", "crates/sample/must-fail/before.edit", "tests/parts/10-one"
 
 FILES = {
     "crates.txt": """\
 sample:
-shown: sample io libc
+shown: sample
 """,
     SOURCE: """\
-ghost use mathlib.Core.Path.{_≡_};
-ghost use Rattle·sample·specs.specs.Promises.{Kept, Put};
+#![tactic(auto)]
+
+ghost use Rattle.sample.specs.Promises.{Kept, Put};
 
 pub fn keep(x: u8) -> u8
-    ensures { λ r. ⌜ Kept x r ⌝ }
+    ensures { Kept x result }
 {
     x
 }
 
 pub fn put(x: u8, y: u8, out: &mut u8) -> u8
-    ensures { λ r. ⌜ Put x y r (now (out .exit)) ⌝ }
+    ensures { Put x y result out.new }
 {
     *out = x;
     y
@@ -35,30 +36,39 @@ pub mod Promises
 """,
     SPECS: """\
 -- What the functions promise.
-use mathlib.Core.Path.{_≡_, sym, _∙_}
-use Prim.Native.Nat.{ℕ}
-use native.Mathlib.Omega.{arith}
+use Rattle.std.specs.Prelude.{◌≡◌, ℕ}
+use mathlib.Core.Path.{sym, ◌∙◌}
 
 -- sample::keep
 abbrev pub Kept : ℕ → ℕ → Type 0
 Kept x r = r ≡ x
 
-pub kept-once : {x r r′ : ℕ} → Kept x r → Kept x r′ → r ≡ r′
-kept-once p q = p ∙ sym q
-
-pub not-zero : Kept 1 0 → ⊥
-not-zero p = let e : _≡_ {A = ℕ} 0 1 = p in omega arith
+pub kept_once : {x r r' : ℕ} → Kept x r → Kept x r' → r ≡ r'
+kept_once p q = p ∙ sym q
 
 -- sample::put
 pub record Put (x y r after : ℕ) : Type 0 where
   pub answer : r ≡ y
   pub lent : after ≡ x
 
-pub put-once : (x y r r′ after after′ : ℕ) → Put x y r after → Put x y r′ after′ → (r ≡ r′) × (after ≡ after′)
-put-once x y r r′ after after′ p q = (p .answer ∙ sym (q .answer), p .lent ∙ sym (q .lent))
+pub put_once : (x y r r' after after' : ℕ) → Put x y r after → Put x y r' after' → (r ≡ r') × (after ≡ after')
+put_once x y r r' after after' p q = (p.answer ∙ sym q.answer, p.lent ∙ sym q.lent)
+""",
+    "crates/sample/proofs/Lib.antt": """\
+pub mod Excluded
+""",
+    LAWS: """\
+-- Wrong answers that the promises rule out.
+use mathlib.Core.Path.{◌≡◌}
+use Prim.Native.Nat.{ℕ}
+use native.Mathlib.Omega.{arith}
+use Rattle.sample.specs.Promises.{Kept, Put}
 
-pub not-unwritten : (r : ℕ) → Put 1 2 r 0 → ⊥
-not-unwritten r p = let e : _≡_ {A = ℕ} 0 1 = p .lent in omega arith
+pub not_zero : Kept 1 0 → ⊥
+not_zero p = let e : ◌≡◌ {A = ℕ} 0 1 = p in omega arith
+
+pub not_unwritten : (r : ℕ) → Put 1 2 r 0 → ⊥
+not_unwritten r p = let e : ◌≡◌ {A = ℕ} 0 1 = p.lent in omega arith
 """,
     ZERO: """\
 # always zero
@@ -77,9 +87,14 @@ old:     *out = x;
 new:     *out = y;
 """,
     "crates/shown/src/main.rt": """\
-fn main() {
-    let said = [b'0' + sample::keep(1), b'\\n'];
-    io::write_all(1, &said);
+#![tactic(auto)]
+
+use std::io;
+
+fn main(rt: HostRuntime) -> io::Result<()> {
+    let kept = sample::keep(1);
+    println!(rt; "{kept}")?;
+    Ok(())
 }
 """,
     "crates/shown/stdout": """\
@@ -93,8 +108,8 @@ fn main() {
 
 | function | promise | one answer | wrong answers ruled out |
 |---|---|---|---|
-| `sample::keep` | `Kept` | `kept-once` | edit:zero, theorem:Promises.not-zero |
-| `sample::put` | `Put` | `put-once` | edit:before, theorem:Promises.not-unwritten |
+| `sample::keep` | `Kept` | `kept_once` | edit:zero, theorem:Excluded.not_zero |
+| `sample::put` | `Put` | `put_once` | edit:before, theorem:Excluded.not_unwritten |
 """,
     "tests/gate/parts.txt": """\
 10-one

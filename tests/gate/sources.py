@@ -4,16 +4,33 @@ It is no parser of either language. The prover refuses what is malformed, and th
 functions found here to the ones that the prover names.
 """
 
+import os
 import re
 from dataclasses import dataclass
 from functools import cache
+from pathlib import Path
 
 NAME = r'[^\s(){}.;,@"«»]+'  # antt's rule of a name
 
 # What says nothing, in either language: comments and quoted text. In Rattle antt's comments count too,
 # since a clause is antt: a promise named only in a comment is not made.
 ANTT_SILENT = r'(?<![^\s(){}.;,@"«»])--[^\n]*|\{-.*?-\}|"(?:\\.|[^"\\])*"'
-RATTLE_SILENT = ANTT_SILENT + r"|//[^\n]*|/\*.*?\*/|b'(?:\\[^']+|[^\\'])'"
+RATTLE_SILENT = ANTT_SILENT + r"|//[^\n]*|/\*.*?\*/|b'(?:\\[^']+|[^\\'])'|'[{}()\"]'"
+
+# The parts of a crate that the prover reads. Beside them stands out/, which rt makes.
+PARTS = ("src", "specs", "proofs")
+
+# The files that may hold what is written of a function's proof.
+PROOFS = ("Answers.antt", "Invariants.antt", "Proof.antt")
+
+
+def files(root, crate=""):
+    """Every file of a crate, or of all, but what rt makes in a crate's out/."""
+    home = root / "crates"
+    for place, folders, names in os.walk(home / crate):
+        if Path(place).parent == home:
+            folders[:] = [name for name in folders if name != "out"]
+        yield from (Path(place, name) for name in names)
 
 
 def read(path):
@@ -38,10 +55,9 @@ def names(text):
 
 
 def tokens(text):
-    """antt's words and signs. `a.b` is one word, `a .b` three. An escaped name is one word, without its « »; a bare `x_y` is another name than `«x_y»`,
-    and stands as `_x_y`."""
+    """antt's words and signs. `a.b` is one word, `a .b` three. An escaped name is one word, without its « »."""
     found = re.findall(rf"«[^»]*»|{NAME}(?:\.{NAME})*|[(){{}}.;,@]", text)
-    return [word[1:-1] if word[0] == "«" else "_" + word if re.fullmatch(r"\w+_\w+", word) else word for word in found]
+    return [word[1:-1] if word[0] == "«" else word for word in found]
 
 
 def parts(words, separator):
@@ -99,8 +115,9 @@ class Function:
     parameters: list
     lent: list      # those that are &mut
     result: bool    # it returns something
-    clauses: dict   # of requires, ensures and ghost: the texts between the braces
+    clauses: dict   # of requires, ensures, ghost and what is none of these: the texts between the braces
     brought: dict   # what the file's `ghost use` lines bring
+    attributes: str # what stands in `#[..]` above it
 
 
 def functions(root, crate):
@@ -119,7 +136,7 @@ def module_of(root, path):
 
 
 STEP = re.compile(r"""
-    (?P<exported>\#\[no_mangle\]\s*)? (?P<pub>\bpub\b\s*(?P<within>\([^)]*\))?\s*)?
+    (?P<attributes>(?:\#\[[^]]*\]\s*)+)? (?P<pub>\bpub\b\s*(?P<within>\([^)]*\))?\s*)?
     (?:\b(?:const|extern|unsafe)\s+)* \bfn\s+(?P<name>\w+)
   | \b(?:impl|mod)\b (?P<scope>[^{};]*) \{
   | [{}]""", re.X)
@@ -132,9 +149,10 @@ def functions_of(text, module, file):
     brought = imported(text)
     for step in STEP.finditer(text):
         if step["name"]:
-            public = bool(step["exported"] or step["pub"] and not step["within"])
+            attributes = step["attributes"] or ""
+            public = bool("no_mangle" in attributes or step["pub"] and not step["within"])
             line = text.count("\n", 0, step.start("name")) + 1
-            found.append(Function(f"{scopes[-1]}::{step['name']}", file, line, public, *contract(text, step.end()), brought))
+            found.append(Function(f"{scopes[-1]}::{step['name']}", file, line, public, *contract(text, step.end()), brought, attributes))
         elif step["scope"]:
             scopes.append(scopes[-1] + "::" + re.sub(r"<[^<>]*>", "", step["scope"]).split()[-1])
         elif step[0] == "{":
@@ -146,6 +164,9 @@ def functions_of(text, module, file):
 
 LENT = r"&\s*(?:'\w+\s+)?mut\b"
 
+# What stands before a clause's brace. A clause may have a name, and a ghost clause has one and a type. A star makes an assertion of a clause.
+CLAUSE = re.compile(r"\b(?:(ghost)(?:\s+\w+\s*:)?|(requires|ensures)(\*)?(?:\s+[\w-]+)?)\s*$")
+
 
 def contract(text, at):
     """What stands after a function's name: (parameters, those that are &mut, has a result, clauses)."""
@@ -153,17 +174,21 @@ def contract(text, at):
     at = closing(text, start)
     parameters = re.findall(r"(?:^|,)\s*(?:mut\s+)?(?:&\s*(?:'\w+\s+)?(?:mut\s+)?)?(\w+)\s*(?=[:,]|$)", flat(text[start + 1:at]))
     lent = re.findall(rf"(\w+)\s*:[^,]*?{LENT}|{LENT}\s+(self)\b", flat(text[start + 1:at]))
-    result, clauses = None, {"ghost": [], "requires": [], "ensures": []}
+    result, clauses = None, {"ghost": [], "requires": [], "ensures": [], "other": []}
     while True:
         brace = text.find("{", at)
         head = text[at + 1:brace]
-        clause = re.search(r"\b(ghost|requires|ensures)(?:\s+[\w-]+)?\s*$", head)  # a clause may have a name
+        clause = CLAUSE.search(head)
         if result is None:
             result = re.sub(r"\s", "", head[:clause.start()] if clause else head)
+        elif not clause and brace >= 0 and head.strip() and head.strip()[0] != ";":  # neither a clause that is known nor the body
+            clauses["other"].append(head.strip())
+            at = closing(text, brace)
+            continue
         if brace < 0 or not clause:  # this brace opens the body
             return parameters, [a or b for a, b in lent], result not in ("", "->()"), clauses
         at = closing(text, brace)
-        clauses[clause[1]].append(text[brace + 1:at])
+        clauses["other" if clause[3] else clause[1] or clause[2]].append(text[brace + 1:at])
 
 
 def flat(text):
@@ -209,9 +234,9 @@ class Declaration:
         return "pub" in self.marks
 
 
-SIGNATURE = re.compile(rf"\s*((?:(?:unfoldable|abbrev|pub)\s+)*)({NAME})\s*(?:\{{[^{{}}]*\}}\s*)?:\s")
+SIGNATURE = re.compile(rf"\s*((?:(?:unfoldable|abbrev|opaque|pub)\s+)*)({NAME})\s*(?:\{{[^{{}}]*\}}\s*)?:\s")
 RECORD = re.compile(rf"\s*((?:pub\s+)?record)\s+({NAME})\s")
-SECTION = re.compile(r"\s*(?:module\b.*\bwhere|(?:(?:unfoldable|abbrev)\s+)*mutual)\s*$", re.S)
+SECTION = re.compile(r"\s*(?:module\b.*\bwhere|(?:(?:unfoldable|abbrev|opaque)\s+)*mutual)\s*$", re.S)
 
 
 def declarations(root, crate):

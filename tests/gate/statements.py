@@ -8,67 +8,73 @@ from dataclasses import dataclass
 
 from .sources import NAME, atoms, bare, parts, tokens
 
-# Words that mean the same in every file. None of our files may give them another meaning.
-FIXED = {"⊥", "¬_", "_≡_", "_×_", "⌜_⌝", "now"}
-EQUAL = "mathlib.Core.Path._≡_"
+# Words that mean the same in every file. None of our files may give them another meaning: they come from the library, under their own names.
+FIXED = {"⊥", "¬◌", "◌≡◌", "◌×◌", "⌜◌⌝", "result"}
+LIBRARY = ("Rattle.std.specs.Prelude", "Rattle.std.proofs.Common", "mathlib.Core.Path", "mathlib.Core.Logic")
+
+
+def other_meaning(brought):
+    """The fixed words to which a file's `use` lines give another meaning."""
+    return {word for word in FIXED & {*brought} if brought[word] not in {f"{home}.{word}" for home in LIBRARY}}
 
 
 # ---- ensures
 
-PLACE = rf"(?:(?:{NAME})|\( (?:{NAME})(?: \. (?:{NAME}))+ \))"
-ARGUMENT = re.compile(rf"{PLACE}|\( now {PLACE} \)")
+# An argument is a name, or a path that begins with one: `x` by value, `x.now` behind a `&`, `x.old` and `x.new` behind a `&mut`, `result`.
+ARGUMENT = re.compile(rf"(?:{NAME})(?:\.(?:{NAME}))*")
+AFTER = ("new", "exit")
+LENT = ("old", "entry", *AFTER)
 
 
 @dataclass
 class Ensured:
-    result: str     # the name that the clause gives to the result
     promise: str
     arguments: list
 
     def outcomes(self):
         """Which arguments are the result, or lent memory afterwards."""
-        return [head(argument) == self.result or "exit" in argument.split() for argument in self.arguments]
+        return [is_outcome(argument) for argument in self.arguments]
+
+
+def is_outcome(argument):
+    name, *path = argument.split(".")
+    return name == "result" or bool(path) and path[0] in AFTER
 
 
 def ensured(function):
-    """What the ensures says, if it is `λ r. ⌜ PROMISE arguments ⌝` and nothing else."""
+    """What the ensures says, if it is `PROMISE arguments` and nothing else."""
     clauses = function.clauses["ensures"]
     if len(clauses) != 1:
         return None
-    binder, *body = parts(tokens(clauses[0]), ".")
-    if len(body) != 1 or len(body[0]) < 3 or (body[0][0], body[0][-1]) != ("⌜", "⌝"):
+    said = atoms(tokens(clauses[0]))
+    if len(said) < 2 or not re.fullmatch(NAME, said[0]):
         return None
-    bound, said = atoms(binder), atoms(body[0][1:-1])
-    if len(bound) != 2 or bound[0] != "λ" or not re.fullmatch(NAME, said[0]):
-        return None
-    return Ensured(head(bound[1]), said[0], said[1:])
-
-
-def head(argument):
-    return next((word for word in argument.split() if word not in ("(", "now")), "")
+    return Ensured(said[0], said[1:])
 
 
 def ensures_problems(function):
     found = [f"has a {clause}" for clause in ("requires", "ghost") if function.clauses[clause]]
+    found += ["has a clause of another kind"] if function.clauses["other"] else []
     if not function.clauses["ensures"]:
         return found + ["has no ensures"]
     said = ensured(function)
     if not said:
-        return found + ["has an ensures that is not one `λ r. ⌜ PROMISE arguments ⌝`"]
-    own = {*function.parameters, said.result}
-    if said.result in function.parameters or said.promise in own or FIXED & {*function.brought} - {"_≡_"}:
+        return found + ["has an ensures that is not one `PROMISE arguments`"]
+    own = {*function.parameters, "result"}
+    if "result" in function.parameters or said.promise in own or other_meaning(function.brought):
         found.append("has an ensures in which one name has two meanings")
     for argument in said.arguments:
-        if not ARGUMENT.fullmatch(argument) or head(argument) not in own:
+        name, *path = argument.split(".")
+        whole = name in function.lent and path[:1] not in [[word] for word in LENT]  # before and after as one
+        if not ARGUMENT.fullmatch(argument) or name not in own or whole:
             found.append(f"has an ensures with `{plain(argument)}`, which is no input, exit or result of the function")
-    if function.result and not {said.result, f"( now {said.result} )"} & {*said.arguments}:
+    if function.result and not {"result", "result.now"} & {*said.arguments}:
         found.append("has an ensures that does not speak of the result")
-    return found + [f"has an ensures that does not speak of `{lent} .exit`" for lent in function.lent
-                    if f"( now ( {lent} . exit ) )" not in said.arguments]
+    return found + [f"has an ensures that does not speak of `{lent}.new`" for lent in function.lent if f"{lent}.new" not in said.arguments]
 
 
 def plain(words):
-    return words.replace("( ", "(").replace(" )", ")").replace(". ", ".")
+    return words.replace("( ", "(").replace(" )", ")")
 
 
 # ---- promises
@@ -109,7 +115,7 @@ def fixed_by(declared, fact, name, seen):
     """A fact, or a part of a product, equates the name with something else. What stands before an arrow is a condition."""
     for part in parts(bare(parts(fact, "→")[-1]), "×"):
         part = bare(part)
-        sides = parts(part, "≡")
+        sides = [[word.partition(".")[0] for word in side] for side in parts(part, "≡")]
         if len(parts(part, "→")) > 1 or len(parts(part, "×")) > 1:
             if fixed_by(declared, part, name, seen):
                 return True
@@ -126,20 +132,21 @@ def fixed_by(declared, fact, name, seen):
 
 # What may be asked for all values of: types that hold data. A type of another kind could be one that nothing has.
 KIT = {"Prim.Native.Nat.ℕ", "mathlib.Core.List.List", "mathlib.Core.Bool.Bool"}
-OURS = re.compile(rf"Rattle·(\w+?)(?:·specs|·proofs)?\.(?:specs|proofs)\.(.+)\.({NAME})")
+KIT |= {f"{home}.{word}" for home in LIBRARY[:2] for word in ("ℕ", "List", "Bool")}
+OURS = re.compile(rf"Rattle\.(\w+)\.(?:specs|proofs)\.(.+)\.({NAME})")
 
 
 def is_data(declared, crate, near, word, seen=()):
     """A word of a type means data in the file where a declaration stands: the kit's numbers and lists, a struct or enum of src/, which antt has below
     `declared`, or a name or record that is made of such. `declared` has the declarations of every crate."""
-    path = near.brought.get(word, f"Rattle·{crate}.specs.{near.module}.{word}")
+    path = near.brought.get(word, f"Rattle.{crate}.specs.{near.module}.{word}")
     ours = OURS.fullmatch(path)
     if word in ("×", "(", ")") or path in KIT:
         return True
-    if not ours or path in seen:
+    if not ours or ours[1] not in declared or path in seen:
         return False
     crate, module, name = ours.groups()
-    found = [d for d in declared.get(crate, []) if (d.module, d.name) == (module, name)]
+    found = [d for d in declared[crate] if (d.module, d.name) == (module, name)]
     return all(made_of(declared, crate, d, (*seen, path)) for d in found) and bool(found or module.startswith("declared."))
 
 
@@ -195,11 +202,10 @@ def theorem_problems(declaration, crate, promise, declared):
         found.append("stands in a section, not at the top of its file")
     if {"abbrev", "unfoldable"} & {*declaration.marks.split()}:
         found.append("is a definition")
-    here = f"Rattle·{crate}·specs.specs.Promises.{promise}"
+    here = f"Rattle.{crate}.specs.Promises.{promise}"
     if declaration.brought.get(promise, here if declaration.module == "Promises" else None) != here:
         found.append(f"does not take {promise} from specs/Promises")
-    other = {word for word in FIXED & {*declaration.brought} if declaration.brought[word] != EQUAL}
-    found += [f"stands in a file that gives {word} another meaning" for word in sorted(other)]
+    found += [f"stands in a file that gives {word} another meaning" for word in sorted(other_meaning(declaration.brought))]
     for name, kind in theorem(tokens(declaration.statement)).variables.items():
         if not all(is_data(declared, crate, declaration, word) for word in kind):
             found.append(f"asks for `{name} : {plain(' '.join(kind))}`, which is no data")

@@ -6,6 +6,7 @@ from pathlib import Path
 
 HERE = Path(__file__).resolve().parent
 ROOT = HERE.parents[1]
+WORK = ROOT / "out"
 SOURCE = ROOT.parent / "shared/docs/src/src"
 
 
@@ -22,7 +23,7 @@ def at_hand():
 
 def build():
     """The path of the shared library that has the Rust's readers and writers, oracle.rs."""
-    work = ROOT / "target/rust-oracle"
+    work = WORK / "rust-oracle"
     crate_in(work, HERE / "lfsr.rs")
     lay(work / "oracle/src/lib.rs", HERE / "oracle.rs")
     (work / "oracle/Cargo.toml").write_text(
@@ -36,7 +37,7 @@ def printed(name, given=b"", allocator=True, checks=True):
     """What the program NAME/main.rs writes, given these bytes, over the Rust crate with the stand-in NAME/lfsr.rs, or lfsr.rs where it has none.
 
     The crate is built with or without its allocator, and with or without debug checks."""
-    work, own = ROOT / f"target/rust-{name}", HERE / name / "lfsr.rs"
+    work, own = WORK / f"rust-{name}", HERE / name / "lfsr.rs"
     crate_in(work, own if own.exists() else HERE / "lfsr.rs")
     lay(work / "program/src/main.rs", HERE / name / "main.rs")
     (work / "program/Cargo.toml").write_text(
