@@ -34,7 +34,7 @@ pub check_not_refused : (k v n : ℕ) → AddressChecked address (suc k) v n →
 check_not_refused k v n p = let e : suc k ≡ 0 = p.number ∙ ap number_of_address taproot in omega arith
 
 pub check_gives_version : (r n : ℕ) → AddressChecked address r 0 n → ⊥
-check_gives_version r n p = let e : ◌≡◌ {A = ℕ} 0 1 = p.version_given_lem ∙ ap version_of_address taproot in omega arith
+check_gives_version r n p = let e : ◌≡◌ {A = ℕ} 0 1 = p.version_given ∙ ap version_of_address taproot in omega arith
 
 -- ---- pennywax_apart_read_address
 

@@ -28,23 +28,23 @@ module _ (s : List ℕ) (a : Address) (kept : a ≡ address_verdict s) where
   pub checked_accepted : (v n : ℕ) → a ≡ address.Accepted v n → AddressChecked s 0 v n
   checked_accepted v n e =
       let w : address.Accepted v n ≡ address_verdict s = sym e ∙ kept in
-      record { number = ap number_of_address w; version_given_lem = ap version_of_address w; length_given = ap length_of_address w }
+      record { number = ap number_of_address w; version_given = ap version_of_address w; length_given = ap length_of_address w }
 
   pub checked_refused : (k : ℕ) → a ≡ address.Refused k → AddressChecked s k 0 0
   checked_refused k e =
       let w : address.Refused k ≡ address_verdict s = sym e ∙ kept in
-      record { number = ap number_of_address w; version_given_lem = ap version_of_address w; length_given = ap length_of_address w }
+      record { number = ap number_of_address w; version_given = ap version_of_address w; length_given = ap length_of_address w }
 
 module _ (s before : List ℕ) (a : Address) (after : List ℕ) (kept : WasAddressRead s before a after) where
   pub read_accepted : (v n : ℕ) → a ≡ address.Accepted v n → AddressRead s before 0 after v n
   read_accepted v n e =
       let w : address.Accepted v n ≡ read_address_verdict s (length before) = sym e ∙ kept.answer in
-      record { number = ap number_of_address w; version_given_lem = ap version_of_address w; length_given = ap length_of_address w; buffer = kept.buffer }
+      record { number = ap number_of_address w; version_given = ap version_of_address w; length_given = ap length_of_address w; buffer = kept.buffer }
 
   pub read_refused : (k : ℕ) → a ≡ address.Refused k → AddressRead s before k after 0 0
   read_refused k e =
       let w : address.Refused k ≡ read_address_verdict s (length before) = sym e ∙ kept.answer in
-      record { number = ap number_of_address w; version_given_lem = ap version_of_address w; length_given = ap length_of_address w; buffer = kept.buffer }
+      record { number = ap number_of_address w; version_given = ap version_of_address w; length_given = ap length_of_address w; buffer = kept.buffer }
 
 module _ (code : ℕ) (s : List ℕ) (a : Reading) (kept : a ≡ coded_read code s) where
   pub string_accepted : (m n : ℕ) → a ≡ reading.Accepted m n → StringRead code s 0 m n

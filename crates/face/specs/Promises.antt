@@ -12,17 +12,17 @@ use Rattle.face.specs.Codes.{coded_read, coded_locate, coded_bytes, coded_write,
 -- face::pennywax_apart_check_address
 pub record AddressChecked (s : List ℕ) (r version n : ℕ) : Type 0 where
   pub number : r ≡ number_of_address (address_verdict s)
-  pub version_given_lem : version ≡ version_of_address (address_verdict s)
+  pub version_given : version ≡ version_of_address (address_verdict s)
   pub length_given : n ≡ length_of_address (address_verdict s)
 
 pub address_checked_once : (s : List ℕ) (r r' v v' n n' : ℕ) → AddressChecked s r v n → AddressChecked s r' v' n' → (r ≡ r') × (v ≡ v') × (n ≡ n')
 address_checked_once s r r' v v' n n' p q =
-    (same p.number q.number, same p.version_given_lem q.version_given_lem, same p.length_given q.length_given)
+    (same p.number q.number, same p.version_given q.version_given, same p.length_given q.length_given)
 
 -- face::pennywax_apart_read_address
 pub record AddressRead (s before : List ℕ) (r : ℕ) (after : List ℕ) (version n : ℕ) : Type 0 where
   pub number : r ≡ number_of_address (read_address_verdict s (length before))
-  pub version_given_lem : version ≡ version_of_address (read_address_verdict s (length before))
+  pub version_given : version ≡ version_of_address (read_address_verdict s (length before))
   pub length_given : n ≡ length_of_address (read_address_verdict s (length before))
   pub buffer : after ≡ program_after (read_address_verdict s (length before)) (program_of s) before
 
@@ -31,7 +31,7 @@ pub address_read_once : (s before : List ℕ) (r r' : ℕ) (after after' : List 
 address_read_once s before r r' after after' v v' n n' p q = (
   same p.number q.number,
   same p.buffer q.buffer,
-  same p.version_given_lem q.version_given_lem,
+  same p.version_given q.version_given,
   same p.length_given q.length_given,
 )
 
