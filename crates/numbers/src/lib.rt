@@ -1,63 +1,59 @@
-// Document 01's numbers, each once: an answer as one number is 0 for accepted, or the refusal's. What a function's promise says of them pins them.
+// Why something is refused: document 01's refusals, each with its number. An answer as one number is 0 for accepted, or the refusal's.
 #![tactic(auto)]
+
+ghost use Rattle.std.specs.Prelude.{◌≡◌};
+ghost use Rattle.numbers.specs.Numbers.{number_of, number_in};
 
 pub const ACCEPTED: u8 = 0;
 
-pub const OUTSIDE_CHARSET: u8 = 1;
+#[derive(Clone, Copy, PartialEq, Eq, Debug)]
+pub enum Refusal {
+    OutsideCharset = 1,
+    MixedCase = 2,
+    NoSeparator = 3,
+    PrefixEmpty = 4,
+    PrefixLong = 5,
+    PrefixByte = 6,
+    StringLong = 7,
+    DataShort = 8,
+    ChecksumWrong = 9,
+    AddressLong = 10,
+    NoData = 11,
+    VersionUnknown = 12,
+    PaddingLong = 13,
+    PaddingNotZero = 14,
+    ProgramLength = 15,
+    ProgramLengthVersion0 = 16,
+    RoomSmall = 17,
+    SymbolLarge = 18,
+    BatchLong = 19,
+    EntryOutside = 20,
+    NoSinglePlace = 21,
+    ScratchSmall = 22,
+    WindowOutside = 23,
+    BudgetSpent = 24,
+    ListFull = 25,
+    ListPlace = 26,
+    DivisionByZero = 27,
+    ChecksumUnknown = 28,
+    // What a caller of C lends to be written overlaps something else that it gives. 29 to 36 are document 02's.
+    RangesOverlap = 37,
+}
 
-pub const MIXED_CASE: u8 = 2;
+impl From<Refusal> for u8 {
+    ghost from_gives = { λ refusal number. number ≡ number_of refusal };
 
-pub const NO_SEPARATOR: u8 = 3;
+    fn from(refusal: Refusal) -> u8 {
+        refusal as u8
+    }
+}
 
-pub const PREFIX_EMPTY: u8 = 4;
-
-pub const PREFIX_LONG: u8 = 5;
-
-pub const PREFIX_BYTE: u8 = 6;
-
-pub const STRING_LONG: u8 = 7;
-
-pub const DATA_SHORT: u8 = 8;
-
-pub const CHECKSUM_WRONG: u8 = 9;
-
-pub const ADDRESS_LONG: u8 = 10;
-
-pub const NO_DATA: u8 = 11;
-
-pub const VERSION_UNKNOWN: u8 = 12;
-
-pub const PADDING_LONG: u8 = 13;
-
-pub const PADDING_NOT_ZERO: u8 = 14;
-
-pub const PROGRAM_LENGTH: u8 = 15;
-
-pub const PROGRAM_LENGTH_VERSION_0: u8 = 16;
-
-pub const ROOM_SMALL: u8 = 17;
-
-pub const SYMBOL_LARGE: u8 = 18;
-
-pub const BATCH_LONG: u8 = 19;
-
-pub const ENTRY_OUTSIDE: u8 = 20;
-
-pub const NO_SINGLE_PLACE: u8 = 21;
-
-pub const SCRATCH_SMALL: u8 = 22;
-
-pub const WINDOW_OUTSIDE: u8 = 23;
-
-pub const BUDGET_SPENT: u8 = 24;
-
-pub const LIST_FULL: u8 = 25;
-
-pub const LIST_PLACE: u8 = 26;
-
-pub const DIVISION_BY_ZERO: u8 = 27;
-
-pub const CHECKSUM_UNKNOWN: u8 = 28;
-
-// What a caller of C lends to be written overlaps something else that it gives. 29 to 36 are document 02's.
-pub const RANGES_OVERLAP: u8 = 37;
+// An answer as one number, whatever it gives where it accepts.
+pub fn number_in<T: Copy>(answer: Result<T, Refusal>) -> u8
+    ensures { result ≡ number_in answer }
+{
+    match answer {
+        Ok(_) => ACCEPTED,
+        Err(refusal) => refusal.into(),
+    }
+}
