@@ -159,8 +159,9 @@ fn write<F: Fn(usize) -> u8>(out: &mut [u8], count: usize, value: F) -> Result<u
     if out.len() < count {
         return Err(Refusal::RoomSmall);
     }
-    for at in 0..count {
-        out[at] = value(at);
+    let front = &mut out[..count];
+    for (at, place) in front.iter_mut().enumerate() {
+        *place = value(at);
     }
     Ok(count)
 }

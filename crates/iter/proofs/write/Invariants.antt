@@ -9,4 +9,4 @@ use Rattle.iter.specs.Writing.{Gives}
 use Rattle.iter.proofs.write.Given as goal
 
 abbrev pub invariant-loop-at : goal.invariant-loop-at
-invariant-loop-at g l = (list : List ℕ) → length list ≡ l.count → Gives (goal.F-post g l.value) list → l.out ≡ front list l.initial.out l.at
+invariant-loop-at g l = (list : List ℕ) → length list ≡ l.count → Gives (goal.F-post g l.value) list → l.front ≡ front list l.initial.front l.at
