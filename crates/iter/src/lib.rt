@@ -18,6 +18,7 @@ use numbers::Refusal;
 const MAX_PADDING: usize = 4;
 
 // How many symbols bytes_to_symbols would write. The division comes first, so that no product overflows.
+#[tactic(auto, using(crate::proofs::Lengths::symbols_length))]
 pub fn symbols_for_bytes(bytes: &[u8]) -> usize
     ensures { SymbolsCounted bytes.now result }
 {
@@ -26,6 +27,7 @@ pub fn symbols_for_bytes(bytes: &[u8]) -> usize
 }
 
 // How many bytes symbols_to_bytes would write.
+#[tactic(auto, using(crate::proofs::Lengths::bytes_length))]
 pub fn bytes_for_symbols(symbols: &[u8]) -> usize
     ensures { BytesCounted symbols.now result }
 {
@@ -50,6 +52,7 @@ pub fn symbols_to_bytes(symbols: &[u8], out: &mut [u8]) -> Result<usize, Refusal
 }
 
 // The same from characters of the charset, of either case. A byte outside the charset, which readers refuse before, counts as symbol 0.
+#[tactic(auto, using(crate::proofs::Characters::characters_length))]
 pub fn characters_to_bytes(characters: &[u8], out: &mut [u8]) -> Result<usize, Refusal>
     ensures { CharactersWritten characters.now out.old result out.new }
 {
@@ -227,6 +230,7 @@ fn symbol_at(bytes: &[u8], at: usize) -> u8
 }
 
 // Eight bits that start in the symbol `first` lie in three symbols.
+#[tactic(auto, using(crate::proofs::Places::first_symbol_in))]
 fn byte_at<R: Reading>(reading: &R, list: &[u8], at: usize) -> u8
     requires { at < length (to_bytes list.now) }
     ensures { result ≡ get_or (to_bytes (map R.symbol_of list.now)) at 0 }
