@@ -77,7 +77,7 @@ pub fn padding_of_characters(characters: &[u8]) -> Result<(), Refusal>
 }
 
 // A walk over the symbols of a slice of bytes: the slice, and how many it gave. Every count is a legal walk.
-#[derive(Clone, Copy)]
+#[derive(Clone, Drop)]
 pub struct BytesToSymbols<'a> {
     pub bytes: &'a [u8],
     pub at: usize,
@@ -112,10 +112,15 @@ impl<'a> Iterator for BytesToSymbols<'a> {
     fn next(&mut self) -> Option<u8> {
         BytesToSymbols::next(self)
     }
+
+    fn size_hint(&self) -> (usize, Option<usize>) {
+        let left = symbols_for_bytes(self.bytes).saturating_sub(self.at);
+        (left, Some(left))
+    }
 }
 
 // A walk over the bytes of a slice of symbols.
-#[derive(Clone, Copy)]
+#[derive(Clone, Drop)]
 pub struct SymbolsToBytes<'a> {
     pub symbols: &'a [u8],
     pub at: usize,
@@ -149,6 +154,11 @@ impl<'a> Iterator for SymbolsToBytes<'a> {
 
     fn next(&mut self) -> Option<u8> {
         SymbolsToBytes::next(self)
+    }
+
+    fn size_hint(&self) -> (usize, Option<usize>) {
+        let left = bytes_for_symbols(self.symbols).saturating_sub(self.at);
+        (left, Some(left))
     }
 }
 
@@ -258,8 +268,5 @@ fn byte_of(x: u8, y: u8, z: u8, offset: usize) -> u8
 fn nth<R: Reading>(reading: &R, list: &[u8], at: usize) -> u8
     ensures { result ≡ get_or (map R.symbol_of list.now) at 0 }
 {
-    if at < list.len() {
-        return reading.read(list[at]);
-    }
-    0
+    list.get(at).map_or(0, |byte| reading.read(*byte))
 }
