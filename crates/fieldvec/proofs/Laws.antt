@@ -56,6 +56,13 @@ module _ (t : FieldVec) where
     pub refuses : {r : Result A Refusal} {refusal : Refusal} → r ≡ Err refusal → answer ≡ Err refusal → Changes t answer r t
     refuses e f = record { result = e ∙ sym (ap given f); list = sym (ap (left t) f) }
 
+    -- an answer that is accepted is not refused, and leaves what it gives
+    pub accepts : {made : A × FieldVec} {refusal : Refusal} → answer ≡ Ok made → Err refusal ≡ given answer → ⊥
+    accepts f e = cc (e, ap given f)
+
+    pub left_made : {made : A × FieldVec} {u : FieldVec} → answer ≡ Ok made → u ≡ left t answer → u ≡ made.1
+    left_made f e = e ∙ ap (left t) f
+
     pub changes : {value : A} {u : FieldVec} → answer ≡ Ok (value, u) → Changes t answer (Ok value) u
     changes f = record { result = sym (ap given f); list = sym (ap (left t) f) }
 
