@@ -5,6 +5,7 @@
 ghost use Rattle.std.specs.Prelude.{◌≤◌, length, IfOk};
 
 use lines::Line;
+use std::fmt;
 use std::io::Read;
 
 // Why a run stops with answers missing.
@@ -17,16 +18,16 @@ enum Failure {
     WritingLast,
 }
 
-impl Failure {
-    fn message(self) -> &'static str {
-        match self {
+impl fmt::Display for Failure {
+    fn fmt<W: fmt::Write>(&self, f: &mut fmt::Formatter<W>) -> fmt::Result {
+        f.write_str(match self {
             Failure::Reading =>
                 "checker: reading failed; the input after the last answer was not judged",
             Failure::Writing => "checker: writing failed; answers are missing",
             Failure::InputLong => "checker: the input is too long; what follows was not judged",
             Failure::LastAnswer => "checker: the last answer is missing",
             Failure::WritingLast => "checker: writing failed; the last answer is missing",
-        }
+        })
     }
 }
 
@@ -36,7 +37,7 @@ fn main(rt: HostRuntime) {
     let mut out = [0u8; 65536];
     if let Err(failure) = run(&rt, &mut line, &mut piece, &mut out) {
         // A message that cannot be written is lost.
-        let _ = rt.eprintln(failure.message());
+        let _ = rt.eprintln(failure);
     }
 }
 
