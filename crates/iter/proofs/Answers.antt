@@ -7,19 +7,20 @@ use native.Mathlib.Omega.{arith}
 use lib.ListN.{length, get_or, drop, set}
 use Rattle.laws.proofs.Front.{front, front_more, front_all}
 use Rattle.paper.specs.Bits.{to_bytes, to_symbols}
-use Rattle.answers.specs.declared.Written.TheVariants.{Accepted, Refused}
 use Rattle.iter.specs.Writing.{Wrote}
 use Rattle.answers.specs.Reading.{room_small, written_into}
 use Rattle.iter.specs.Steps.{symbol_step, byte_step}
 use Rattle.iter.specs.declared.SymbolStep.TheVariants as symbol
 use Rattle.iter.specs.declared.ByteStep.TheVariants as byte
+use Rattle.numbers.specs.declared.Refusal.TheVariants.{RoomSmall}
+use Rattle.std.specs.Prelude.{Ok, Err}
 
 module _ (list before : List ℕ) (count : ℕ) (all : count ≡ length list) where
-  pub no_room : length before < count → Wrote list before (Refused 17) before
+  pub no_room : length before < count → Wrote list before (Err RoomSmall) before
   unfolding written_into room_small
   no_room h = record { answer = rw (← all, lt-ltb (length before) count h); buffer = rw (← all, lt-ltb (length before) count h) }
 
-  pub room : count ≤ length before → (after : List ℕ) → after ≡ list ++ drop count before → Wrote list before (Accepted count) after
+  pub room : count ≤ length before → (after : List ℕ) → after ≡ list ++ drop count before → Wrote list before (Ok count) after
   unfolding written_into room_small
   room h after e = record { answer = rw (← all, le-ltb (length before) count h); buffer = rw (← all, le-ltb (length before) count h) e }
 

@@ -1,5 +1,5 @@
 -- Wrong answers that the promises rule out, each on a concrete input: what a body gives that counts, cuts, starts or stops in the wrong place.
-use mathlib.Core.Path.{◌≡◌, ap}
+use mathlib.Core.Path.{◌≡◌, sym, ap}
 use mathlib.Core.List.{List, [], ◌∷◌}
 use Prim.Native.Nat.{ℕ}
 use native.Mathlib.Omega.{arith}
@@ -9,8 +9,6 @@ use Rattle.paper.specs.Charset.{charset, symbol}
 use Rattle.paper.specs.Bits.{bits_of, bits, spelled, groups, whole, leftover, to_bytes, padding, to_symbols}
 use Rattle.answers.specs.Rules.{padding_long, padding_not_zero, padding_verdict}
 use Rattle.answers.specs.Reading.{room_small, written_into}
-use Rattle.answers.specs.declared.Verdict.TheVariants as verdict
-use Rattle.answers.specs.declared.Written.TheVariants as written
 use Rattle.iter.specs.Steps.{symbol_step, byte_step}
 use Rattle.iter.specs.Numbers.{given_of_symbol_step, symbol_of_symbol_step, place_of_symbol_step, given_of_byte_step, byte_of_byte_step, place_of_byte_step}
 use Rattle.iter.specs.Promises.{SymbolsCounted, BytesCounted, SymbolsWritten, BytesWritten, CharactersWritten, PaddingJudged, CharactersJudged, SymbolsBegun, SymbolGiven, BytesBegun, ByteGiven}
@@ -18,6 +16,9 @@ use Rattle.iter.specs.declared.BytesToSymbols.{BytesToSymbols}
 use Rattle.iter.specs.declared.SymbolsToBytes.{SymbolsToBytes}
 use Rattle.iter.specs.declared.SymbolStep.TheVariants as step
 use Rattle.iter.specs.declared.ByteStep.TheVariants as byte
+use Rattle.numbers.specs.declared.Refusal.TheVariants.{PaddingLong, PaddingNotZero, RoomSmall}
+use Rattle.numbers.proofs.Numbers.{err_apart, ok_injective}
+use Rattle.std.specs.Prelude.{Ok, Err}
 
 -- ---- the counts
 
@@ -42,81 +43,81 @@ bytes_not_counted_fours p = let e : ◌≡◌ {A = ℕ} 4 5 = p in omega arith
 -- ---- the three that write
 
 -- 17 where the room is just enough, and the count of what was read
-pub symbols_not_refused : SymbolsWritten (255 ∷ []) (9 ∷ 9 ∷ []) (written.Refused 17) (9 ∷ 9 ∷ []) → ⊥
+pub symbols_not_refused : SymbolsWritten (255 ∷ []) (9 ∷ 9 ∷ []) (Err RoomSmall) (9 ∷ 9 ∷ []) → ⊥
 unfolding written_into room_small to_symbols whole groups spelled bits bits_of
-symbols_not_refused p = let e : written.Refused 17 ≡ written.Accepted 2 = p.answer in let z : ◌≡◌ {A = ℕ} 0 1 = cc in omega arith
+symbols_not_refused p = err_apart 2 RoomSmall p.answer
 
-pub symbols_not_counted_as_bytes : (after : List ℕ) → SymbolsWritten (255 ∷ []) (9 ∷ 9 ∷ []) (written.Accepted 1) after → ⊥
+pub symbols_not_counted_as_bytes : (after : List ℕ) → SymbolsWritten (255 ∷ []) (9 ∷ 9 ∷ []) (Ok 1) after → ⊥
 unfolding written_into room_small to_symbols whole groups spelled bits bits_of
-symbols_not_counted_as_bytes after p = let e : written.Accepted 1 ≡ written.Accepted 2 = p.answer in let z : ◌≡◌ {A = ℕ} 1 2 = cc in omega arith
+symbols_not_counted_as_bytes after p = let e : ◌≡◌ {A = ℕ} 1 2 = ok_injective 1 2 p.answer in omega arith
 
 -- symbols read one bit late, and what stands past them overwritten
-pub symbols_not_late : SymbolsWritten (255 ∷ []) (9 ∷ 9 ∷ []) (written.Accepted 2) (31 ∷ 24 ∷ []) → ⊥
+pub symbols_not_late : SymbolsWritten (255 ∷ []) (9 ∷ 9 ∷ []) (Ok 2) (31 ∷ 24 ∷ []) → ⊥
 unfolding written_into room_small to_symbols whole groups spelled bits bits_of
 symbols_not_late p = let e : ◌≡◌ {A = ℕ} 24 28 = ap (λ (l : List ℕ). get_or l 1 0) p.buffer in omega arith
 
-pub symbols_not_past_the_end : SymbolsWritten (255 ∷ []) (9 ∷ 9 ∷ 9 ∷ []) (written.Accepted 2) (31 ∷ 28 ∷ 0 ∷ []) → ⊥
+pub symbols_not_past_the_end : SymbolsWritten (255 ∷ []) (9 ∷ 9 ∷ 9 ∷ []) (Ok 2) (31 ∷ 28 ∷ 0 ∷ []) → ⊥
 unfolding written_into room_small to_symbols whole groups spelled bits bits_of
 symbols_not_past_the_end p = let e : ◌≡◌ {A = ℕ} 0 9 = ap (λ (l : List ℕ). get_or l 2 0) p.buffer in omega arith
 
 -- of symbols: 17 where the room is just enough, the count of what was read, and bits of the second symbol where those of the third belong
-pub bytes_not_refused : BytesWritten (31 ∷ 28 ∷ []) (9 ∷ []) (written.Refused 17) (9 ∷ []) → ⊥
+pub bytes_not_refused : BytesWritten (31 ∷ 28 ∷ []) (9 ∷ []) (Err RoomSmall) (9 ∷ []) → ⊥
 unfolding written_into room_small to_bytes whole groups spelled bits bits_of
-bytes_not_refused p = let e : written.Refused 17 ≡ written.Accepted 1 = p.answer in let z : ◌≡◌ {A = ℕ} 0 1 = cc in omega arith
+bytes_not_refused p = err_apart 1 RoomSmall p.answer
 
-pub bytes_not_counted_as_symbols : (after : List ℕ) → BytesWritten (31 ∷ 28 ∷ []) (9 ∷ 9 ∷ []) (written.Accepted 2) after → ⊥
+pub bytes_not_counted_as_symbols : (after : List ℕ) → BytesWritten (31 ∷ 28 ∷ []) (9 ∷ 9 ∷ []) (Ok 2) after → ⊥
 unfolding written_into room_small to_bytes whole groups spelled bits bits_of
-bytes_not_counted_as_symbols after p = let e : written.Accepted 2 ≡ written.Accepted 1 = p.answer in let z : ◌≡◌ {A = ℕ} 2 1 = cc in omega arith
+bytes_not_counted_as_symbols after p = let e : ◌≡◌ {A = ℕ} 2 1 = ok_injective 2 1 p.answer in omega arith
 
-pub third_symbol_not_lost : BytesWritten (31 ∷ 0 ∷ 31 ∷ 0 ∷ []) (9 ∷ 9 ∷ []) (written.Accepted 2) (248 ∷ 63 ∷ []) → ⊥
+pub third_symbol_not_lost : BytesWritten (31 ∷ 0 ∷ 31 ∷ 0 ∷ []) (9 ∷ 9 ∷ []) (Ok 2) (248 ∷ 63 ∷ []) → ⊥
 unfolding written_into room_small to_bytes whole groups spelled bits bits_of
 third_symbol_not_lost p = let e : ◌≡◌ {A = ℕ} 63 62 = ap (λ (l : List ℕ). get_or l 1 0) p.buffer in omega arith
 
 -- the same of characters, where q is 0 and l is 31
-pub characters_not_refused : CharactersWritten (bytes "lu") (9 ∷ []) (written.Refused 17) (9 ∷ []) → ⊥
+pub characters_not_refused : CharactersWritten (bytes "lu") (9 ∷ []) (Err RoomSmall) (9 ∷ []) → ⊥
 unfolding written_into room_small to_bytes whole groups spelled bits bits_of symbol charset
-characters_not_refused p = let e : written.Refused 17 ≡ written.Accepted 1 = p.answer in let z : ◌≡◌ {A = ℕ} 0 1 = cc in omega arith
+characters_not_refused p = err_apart 1 RoomSmall p.answer
 
-pub characters_not_counted_as_read : (after : List ℕ) → CharactersWritten (bytes "lu") (9 ∷ 9 ∷ []) (written.Accepted 2) after → ⊥
+pub characters_not_counted_as_read : (after : List ℕ) → CharactersWritten (bytes "lu") (9 ∷ 9 ∷ []) (Ok 2) after → ⊥
 unfolding written_into room_small to_bytes whole groups spelled bits bits_of symbol charset
-characters_not_counted_as_read after p = let e : written.Accepted 2 ≡ written.Accepted 1 = p.answer in let z : ◌≡◌ {A = ℕ} 2 1 = cc in omega arith
+characters_not_counted_as_read after p = let e : ◌≡◌ {A = ℕ} 2 1 = ok_injective 2 1 p.answer in omega arith
 
-pub third_character_not_lost : CharactersWritten (bytes "lqlq") (9 ∷ 9 ∷ []) (written.Accepted 2) (248 ∷ 63 ∷ []) → ⊥
+pub third_character_not_lost : CharactersWritten (bytes "lqlq") (9 ∷ 9 ∷ []) (Ok 2) (248 ∷ 63 ∷ []) → ⊥
 unfolding written_into room_small to_bytes whole groups spelled bits bits_of symbol charset
 third_character_not_lost p = let e : ◌≡◌ {A = ℕ} 63 62 = ap (λ (l : List ℕ). get_or l 1 0) p.buffer in omega arith
 
 -- and of characters in upper case taken as they are
-pub capitals_not_outside : CharactersWritten (bytes "LU") (9 ∷ []) (written.Accepted 1) (0 ∷ []) → ⊥
+pub capitals_not_outside : CharactersWritten (bytes "LU") (9 ∷ []) (Ok 1) (0 ∷ []) → ⊥
 unfolding written_into room_small to_bytes whole groups spelled bits bits_of symbol charset
 capitals_not_outside p = let e : ◌≡◌ {A = ℕ} 0 255 = ap (λ (l : List ℕ). get_or l 0 0) p.buffer in omega arith
 
 -- ---- the padding
 
 -- the first symbol judged for the last, 13 for four bits, and bits that are dropped unlooked
-pub not_the_first_symbol : PaddingJudged (3 ∷ 0 ∷ []) (verdict.Refused 14) → ⊥
+pub not_the_first_symbol : PaddingJudged (3 ∷ 0 ∷ []) (Err PaddingNotZero) → ⊥
 unfolding padding_verdict padding_long padding_not_zero padding leftover bits bits_of
-not_the_first_symbol p = let e : verdict.Refused 14 ≡ verdict.Accepted = p in let z : ◌≡◌ {A = ℕ} 0 1 = cc in omega arith
+not_the_first_symbol p = err_apart tt PaddingNotZero p
 
-pub not_13_for_four_bits : PaddingJudged (0 ∷ 0 ∷ 0 ∷ 0 ∷ []) (verdict.Refused 13) → ⊥
+pub not_13_for_four_bits : PaddingJudged (0 ∷ 0 ∷ 0 ∷ 0 ∷ []) (Err PaddingLong) → ⊥
 unfolding padding_verdict padding_long padding_not_zero padding leftover bits bits_of
-not_13_for_four_bits p = let e : verdict.Refused 13 ≡ verdict.Accepted = p in let z : ◌≡◌ {A = ℕ} 0 1 = cc in omega arith
+not_13_for_four_bits p = err_apart tt PaddingLong p
 
-pub not_unlooked : PaddingJudged (0 ∷ 3 ∷ []) verdict.Accepted → ⊥
+pub not_unlooked : PaddingJudged (0 ∷ 3 ∷ []) (Ok tt) → ⊥
 unfolding padding_verdict padding_long padding_not_zero padding leftover bits bits_of
-not_unlooked p = let e : verdict.Accepted ≡ verdict.Refused 14 = p in let z : ◌≡◌ {A = ℕ} 0 1 = cc in omega arith
+not_unlooked p = err_apart tt PaddingNotZero (sym p)
 
 -- the same of characters, where r is 3
-pub not_the_first_character : CharactersJudged (bytes "rq") (verdict.Refused 14) → ⊥
+pub not_the_first_character : CharactersJudged (bytes "rq") (Err PaddingNotZero) → ⊥
 unfolding padding_verdict padding_long padding_not_zero padding leftover bits bits_of symbol charset
-not_the_first_character p = let e : verdict.Refused 14 ≡ verdict.Accepted = p in let z : ◌≡◌ {A = ℕ} 0 1 = cc in omega arith
+not_the_first_character p = err_apart tt PaddingNotZero p
 
-pub not_13_for_four_characters : CharactersJudged (bytes "qqqq") (verdict.Refused 13) → ⊥
+pub not_13_for_four_characters : CharactersJudged (bytes "qqqq") (Err PaddingLong) → ⊥
 unfolding padding_verdict padding_long padding_not_zero padding leftover bits bits_of symbol charset
-not_13_for_four_characters p = let e : verdict.Refused 13 ≡ verdict.Accepted = p in let z : ◌≡◌ {A = ℕ} 0 1 = cc in omega arith
+not_13_for_four_characters p = err_apart tt PaddingLong p
 
-pub not_unlooked_characters : CharactersJudged (bytes "qr") verdict.Accepted → ⊥
+pub not_unlooked_characters : CharactersJudged (bytes "qr") (Ok tt) → ⊥
 unfolding padding_verdict padding_long padding_not_zero padding leftover bits bits_of symbol charset
-not_unlooked_characters p = let e : verdict.Accepted ≡ verdict.Refused 14 = p in let z : ◌≡◌ {A = ℕ} 0 1 = cc in omega arith
+not_unlooked_characters p = err_apart tt PaddingNotZero (sym p)
 
 -- ---- the walks
 

@@ -4,14 +4,14 @@ use Rattle.laws.proofs.Bools.{same}
 use Rattle.paper.specs.Charset.{symbol}
 use Rattle.paper.specs.Bits.{to_bytes, to_symbols}
 use Rattle.answers.specs.Rules.{padding_verdict}
-use Rattle.answers.specs.declared.Verdict.{Verdict}
-use Rattle.answers.specs.declared.Written.{Written}
 use Rattle.iter.specs.Writing.{Wrote}
 use Rattle.iter.specs.Steps.{symbol_step, byte_step}
 use Rattle.iter.specs.declared.BytesToSymbols.{BytesToSymbols}
 use Rattle.iter.specs.declared.SymbolsToBytes.{SymbolsToBytes}
 use Rattle.iter.specs.declared.SymbolStep.{SymbolStep}
 use Rattle.iter.specs.declared.ByteStep.{ByteStep}
+use Rattle.numbers.specs.declared.Refusal.{Refusal}
+use Rattle.std.specs.Prelude.{Result, ⊤}
 
 -- iter::symbols_for_bytes
 abbrev pub SymbolsCounted : List ℕ → ℕ → Type 0
@@ -28,41 +28,41 @@ pub bytes_counted_once : (symbols : List ℕ) (r s : ℕ) → BytesCounted symbo
 bytes_counted_once symbols r s p q = same p q
 
 -- iter::bytes_to_symbols
-abbrev pub SymbolsWritten : List ℕ → List ℕ → Written → List ℕ → Type 0
+abbrev pub SymbolsWritten : List ℕ → List ℕ → Result ℕ Refusal → List ℕ → Type 0
 SymbolsWritten bytes before r after = Wrote (to_symbols bytes) before r after
 
-pub symbols_written_once : (bytes before : List ℕ) (r s : Written) (after after' : List ℕ)
+pub symbols_written_once : (bytes before : List ℕ) (r s : Result ℕ Refusal) (after after' : List ℕ)
     → SymbolsWritten bytes before r after → SymbolsWritten bytes before s after' → (r ≡ s) × (after ≡ after')
 symbols_written_once bytes before r s after after' p q = (same p.answer q.answer, same p.buffer q.buffer)
 
 -- iter::symbols_to_bytes
-abbrev pub BytesWritten : List ℕ → List ℕ → Written → List ℕ → Type 0
+abbrev pub BytesWritten : List ℕ → List ℕ → Result ℕ Refusal → List ℕ → Type 0
 BytesWritten symbols before r after = Wrote (to_bytes symbols) before r after
 
-pub bytes_written_once : (symbols before : List ℕ) (r s : Written) (after after' : List ℕ)
+pub bytes_written_once : (symbols before : List ℕ) (r s : Result ℕ Refusal) (after after' : List ℕ)
     → BytesWritten symbols before r after → BytesWritten symbols before s after' → (r ≡ s) × (after ≡ after')
 bytes_written_once symbols before r s after after' p q = (same p.answer q.answer, same p.buffer q.buffer)
 
 -- iter::characters_to_bytes
-abbrev pub CharactersWritten : List ℕ → List ℕ → Written → List ℕ → Type 0
+abbrev pub CharactersWritten : List ℕ → List ℕ → Result ℕ Refusal → List ℕ → Type 0
 CharactersWritten characters before r after = Wrote (to_bytes (map symbol characters)) before r after
 
-pub characters_written_once : (characters before : List ℕ) (r s : Written) (after after' : List ℕ)
+pub characters_written_once : (characters before : List ℕ) (r s : Result ℕ Refusal) (after after' : List ℕ)
     → CharactersWritten characters before r after → CharactersWritten characters before s after' → (r ≡ s) × (after ≡ after')
 characters_written_once characters before r s after after' p q = (same p.answer q.answer, same p.buffer q.buffer)
 
 -- iter::padding
-abbrev pub PaddingJudged : List ℕ → Verdict → Type 0
+abbrev pub PaddingJudged : List ℕ → Result ⊤ Refusal → Type 0
 PaddingJudged symbols r = r ≡ padding_verdict symbols
 
-pub padding_judged_once : (symbols : List ℕ) (r s : Verdict) → PaddingJudged symbols r → PaddingJudged symbols s → r ≡ s
+pub padding_judged_once : (symbols : List ℕ) (r s : Result ⊤ Refusal) → PaddingJudged symbols r → PaddingJudged symbols s → r ≡ s
 padding_judged_once symbols r s p q = same p q
 
 -- iter::padding_of_characters
-abbrev pub CharactersJudged : List ℕ → Verdict → Type 0
+abbrev pub CharactersJudged : List ℕ → Result ⊤ Refusal → Type 0
 CharactersJudged characters r = r ≡ padding_verdict (map symbol characters)
 
-pub characters_judged_once : (characters : List ℕ) (r s : Verdict) → CharactersJudged characters r → CharactersJudged characters s → r ≡ s
+pub characters_judged_once : (characters : List ℕ) (r s : Result ⊤ Refusal) → CharactersJudged characters r → CharactersJudged characters s → r ≡ s
 characters_judged_once characters r s p q = same p q
 
 -- iter::BytesToSymbols::new

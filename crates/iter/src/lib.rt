@@ -5,12 +5,11 @@
 ghost use Rattle.std.specs.Prelude.{◌≡◌, List, ◌++◌, map, ℕ, ◌+◌, ◌-◌, ◌*◌, ◌/◌, ◌%◌, ◌^◌, ◌≤◌, ◌<◌, length, get_or, drop};
 ghost use Rattle.paper.specs.Bits.{to_bytes, to_symbols};
 ghost use Rattle.paper.specs.Charset.{symbol};
-ghost use Rattle.gf32.specs.Promises.{ClassesGiven};
 ghost use Rattle.answers.specs.Rules.{padding_verdict};
 ghost use Rattle.iter.specs.Promises.{SymbolsCounted, BytesCounted, SymbolsWritten, BytesWritten, CharactersWritten, PaddingJudged, CharactersJudged, SymbolsBegun, SymbolGiven, BytesBegun, ByteGiven};
 
-use answers::{Verdict, Written};
-use numbers::{PADDING_LONG, PADDING_NOT_ZERO, ROOM_SMALL};
+use gf32::Classes;
+use numbers::Refusal;
 
 // Of the bits left over at the end, so many may be padding.
 const MAX_PADDING: usize = 4;
@@ -57,59 +56,59 @@ pub fn bytes_for_symbols(symbols: &[u8]) -> usize
 }
 
 // The last symbol is filled up with zero bits.
-pub fn bytes_to_symbols(bytes: &[u8], out: &mut [u8]) -> Written
+pub fn bytes_to_symbols(bytes: &[u8], out: &mut [u8]) -> Result<usize, Refusal>
     ensures { SymbolsWritten bytes.now out.old result out.new }
 {
     let symbols = symbols_for_bytes(bytes);
     if out.len() < symbols {
-        return Written::Refused(ROOM_SMALL);
+        return Err(Refusal::RoomSmall);
     }
     put_symbols(bytes, out, symbols);
-    Written::Accepted(symbols)
+    Ok(symbols)
 }
 
 // Bits left over at the end are dropped unlooked; `padding` judges them.
-pub fn symbols_to_bytes(symbols: &[u8], out: &mut [u8]) -> Written
+pub fn symbols_to_bytes(symbols: &[u8], out: &mut [u8]) -> Result<usize, Refusal>
     ensures { BytesWritten symbols.now out.old result out.new }
 {
     let bytes = bytes_for_symbols(symbols);
     if out.len() < bytes {
-        return Written::Refused(ROOM_SMALL);
+        return Err(Refusal::RoomSmall);
     }
     put_bytes(symbols, out, bytes);
-    Written::Accepted(bytes)
+    Ok(bytes)
 }
 
 // The same from characters of the charset, of either case. A byte outside the charset, which readers refuse before, counts as symbol 0.
-pub fn characters_to_bytes(characters: &[u8], out: &mut [u8]) -> Written
+pub fn characters_to_bytes(characters: &[u8], out: &mut [u8]) -> Result<usize, Refusal>
     ensures { CharactersWritten characters.now out.old result out.new }
 {
     let count = bytes_for_symbols(characters);
     if out.len() < count {
-        return Written::Refused(ROOM_SMALL);
+        return Err(Refusal::RoomSmall);
     }
     put_bytes_of(characters, out, count);
-    Written::Accepted(count)
+    Ok(count)
 }
 
 // Document 01, answers 13 and 14: the bits that symbols_to_bytes drops.
-pub fn padding(symbols: &[u8]) -> Verdict
+pub fn padding(symbols: &[u8]) -> Result<(), Refusal>
     ensures { PaddingJudged symbols.now result }
 {
     let n = symbols.len();
     if n == 0 {
-        return Verdict::Accepted;
+        return Ok(());
     }
     padding_after(n, symbols[n - 1])
 }
 
 // The same from characters, as in characters_to_bytes.
-pub fn padding_of_characters(characters: &[u8]) -> Verdict
+pub fn padding_of_characters(characters: &[u8]) -> Result<(), Refusal>
     ensures { CharactersJudged characters.now result }
 {
     let n = characters.len();
     if n == 0 {
-        return Verdict::Accepted;
+        return Ok(());
     }
     let classes = gf32::classes();
     padding_after(n, nth_of(&classes, characters, n - 1))
@@ -152,17 +151,17 @@ impl SymbolsToBytes {
 }
 
 // The bits left over of so many symbols are low bits of the last, unless there are too many of them.
-fn padding_after(count: usize, last: u8) -> Verdict
+fn padding_after(count: usize, last: u8) -> Result<(), Refusal>
     ensures { (symbols : List ℕ) → length symbols ≡ count → get_or symbols (count - 1) 0 % 32 ≡ last % 32 → result ≡ padding_verdict symbols }
 {
     let left = count % 8 * 5 % 8;
     if MAX_PADDING < left {
-        return Verdict::Refused(PADDING_LONG);
+        return Err(Refusal::PaddingLong);
     }
     if last % (1 << left) != 0 {
-        return Verdict::Refused(PADDING_NOT_ZERO);
+        return Err(Refusal::PaddingNotZero);
     }
-    Verdict::Accepted
+    Ok(())
 }
 
 fn put_symbols(bytes: &[u8], out: &mut [u8], count: usize)
@@ -226,8 +225,8 @@ fn nth_byte(symbols: &[u8], at: usize) -> u8
     )
 }
 
-fn nth_byte_of(classes: &[u8; 256], characters: &[u8], at: usize) -> u8
-    requires { ClassesGiven classes.now × (at < length (to_bytes (map symbol characters.now))) }
+fn nth_byte_of(classes: &Classes, characters: &[u8], at: usize) -> u8
+    requires { at < length (to_bytes (map symbol characters.now)) }
     ensures { result ≡ get_or (to_bytes (map symbol characters.now)) at 0 }
 {
     let first = at / 5 * 8 + at % 5 * 8 / 5;
@@ -260,12 +259,11 @@ fn nth(list: &[u8], at: usize) -> u8
 }
 
 // The same for the symbols of characters.
-fn nth_of(classes: &[u8; 256], characters: &[u8], at: usize) -> u8
-    requires { ClassesGiven classes.now }
+fn nth_of(classes: &Classes, characters: &[u8], at: usize) -> u8
     ensures { result ≡ get_or (map symbol characters.now) at 0 }
 {
     if at < characters.len() {
-        return gf32::class_symbol(classes[characters[at] as usize]);
+        return classes.symbol(characters[at]);
     }
     0
 }

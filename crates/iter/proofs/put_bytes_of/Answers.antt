@@ -12,9 +12,6 @@ use Rattle.iter.proofs.put_bytes_of.Goals as goal
 pub loop-at-init : goal.loop-at-init
 loop-at-init c = (search rules, refl, refl)
 
-pub nth_byte_of-requires : goal.nth_byte_of-requires
-nth_byte_of-requires c = (c.classes-classes.ensures, search rules)
-
 pub loop-at-preserved : goal.loop-at-preserved
 loop-at-preserved c =
     let l = c.loop-at in (
