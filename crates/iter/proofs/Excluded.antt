@@ -9,16 +9,14 @@ use Rattle.paper.specs.Charset.{charset, symbol}
 use Rattle.paper.specs.Bits.{bits_of, bits, spelled, groups, whole, leftover, to_bytes, padding, to_symbols}
 use Rattle.answers.specs.Rules.{padding_long, padding_not_zero, padding_verdict}
 use Rattle.answers.specs.Reading.{room_small, written_into}
-use Rattle.iter.specs.Steps.{symbol_step, byte_step}
-use Rattle.iter.specs.Numbers.{given_of_symbol_step, symbol_of_symbol_step, place_of_symbol_step, given_of_byte_step, byte_of_byte_step, place_of_byte_step}
+use Rattle.iter.specs.Steps.{symbols_walk, bytes_walk, symbol_step, after_symbol, byte_step, after_byte}
+use Rattle.iter.specs.Numbers.{given_of_step, value_of_step}
 use Rattle.iter.specs.Promises.{SymbolsCounted, BytesCounted, SymbolsWritten, BytesWritten, CharactersWritten, PaddingJudged, CharactersJudged, SymbolsBegun, SymbolGiven, BytesBegun, ByteGiven}
 use Rattle.iter.specs.declared.BytesToSymbols.{BytesToSymbols}
 use Rattle.iter.specs.declared.SymbolsToBytes.{SymbolsToBytes}
-use Rattle.iter.specs.declared.SymbolStep.TheVariants as step
-use Rattle.iter.specs.declared.ByteStep.TheVariants as byte
 use Rattle.numbers.specs.declared.Refusal.TheVariants.{PaddingLong, PaddingNotZero, RoomSmall}
 use Rattle.numbers.proofs.Numbers.{err_apart, ok_injective}
-use Rattle.std.specs.Prelude.{Ok, Err}
+use Rattle.std.specs.Prelude.{Ok, Err, Some, None}
 
 -- ---- the counts
 
@@ -122,47 +120,60 @@ not_unlooked_characters p = err_apart tt PaddingNotZero (sym p)
 -- ---- the walks
 
 -- walks that leave out the first value, or start behind any list and so give nothing
-pub symbols_not_from_the_second : SymbolsBegun (record { at = 1 }) → ⊥
-symbols_not_from_the_second p = let e : ◌≡◌ {A = ℕ} 1 0 = ap (λ (w : BytesToSymbols). w.at) p in omega arith
+pub symbols_not_from_the_second : (place : ℕ × ℕ) (bytes : List ℕ) → SymbolsBegun place bytes (symbols_walk place bytes 1) → ⊥
+symbols_not_from_the_second place bytes p = let e : ◌≡◌ {A = ℕ} 1 0 = ap (λ (w : BytesToSymbols). w.at) p in omega arith
 
-pub symbols_not_at_the_end : SymbolsBegun (record { at = 18446744073709551615 }) → ⊥
-symbols_not_at_the_end p = let e : ◌≡◌ {A = ℕ} 18446744073709551615 0 = ap (λ (w : BytesToSymbols). w.at) p in omega arith
+pub symbols_not_at_the_end : (place : ℕ × ℕ) (bytes : List ℕ) → SymbolsBegun place bytes (symbols_walk place bytes 18446744073709551615) → ⊥
+symbols_not_at_the_end place bytes p = let e : ◌≡◌ {A = ℕ} 18446744073709551615 0 = ap (λ (w : BytesToSymbols). w.at) p in omega arith
 
-pub bytes_not_from_the_second : BytesBegun (record { at = 1 }) → ⊥
-bytes_not_from_the_second p = let e : ◌≡◌ {A = ℕ} 1 0 = ap (λ (w : SymbolsToBytes). w.at) p in omega arith
+pub bytes_not_from_the_second : (place : ℕ × ℕ) (symbols : List ℕ) → BytesBegun place symbols (bytes_walk place symbols 1) → ⊥
+bytes_not_from_the_second place symbols p = let e : ◌≡◌ {A = ℕ} 1 0 = ap (λ (w : SymbolsToBytes). w.at) p in omega arith
 
-pub bytes_not_at_the_end : BytesBegun (record { at = 18446744073709551615 }) → ⊥
-bytes_not_at_the_end p = let e : ◌≡◌ {A = ℕ} 18446744073709551615 0 = ap (λ (w : SymbolsToBytes). w.at) p in omega arith
+pub bytes_not_at_the_end : (place : ℕ × ℕ) (symbols : List ℕ) → BytesBegun place symbols (bytes_walk place symbols 18446744073709551615) → ⊥
+bytes_not_at_the_end place symbols p = let e : ◌≡◌ {A = ℕ} 18446744073709551615 0 = ap (λ (w : SymbolsToBytes). w.at) p in omega arith
+
+-- and over another list than the one lent
+pub symbols_not_of_another : (place : ℕ × ℕ) → SymbolsBegun place (255 ∷ []) (symbols_walk place (254 ∷ []) 0) → ⊥
+symbols_not_of_another place p = let e : ◌≡◌ {A = ℕ} 254 255 = ap (λ (w : BytesToSymbols). get_or w.bytes.now 0 0) p in omega arith
+
+pub bytes_not_of_another : (place : ℕ × ℕ) → BytesBegun place (31 ∷ 28 ∷ []) (bytes_walk place (31 ∷ 27 ∷ []) 0) → ⊥
+bytes_not_of_another place p = let e : ◌≡◌ {A = ℕ} 27 28 = ap (λ (w : SymbolsToBytes). get_or w.symbols.now 1 0) p in omega arith
 
 -- steps that never leave the first value, that give it again, that end one value early, and that give a value past the end
-pub symbols_not_staying : SymbolGiven (255 ∷ []) (record { at = 0 }) (step.Symbol 31 (record { at = 0 })) → ⊥
+pub symbols_not_staying : (place : ℕ × ℕ)
+    → SymbolGiven (symbols_walk place (255 ∷ []) 0) (Some 31) (symbols_walk place (255 ∷ []) 0) → ⊥
+unfolding after_symbol to_symbols whole groups spelled bits bits_of
+symbols_not_staying place p = let e : ◌≡◌ {A = ℕ} 0 1 = ap (λ (w : BytesToSymbols). w.at) p.left in omega arith
+
+pub symbols_not_repeating : (place : ℕ × ℕ)
+    → SymbolGiven (symbols_walk place (255 ∷ []) 1) (Some 31) (symbols_walk place (255 ∷ []) 2) → ⊥
 unfolding symbol_step to_symbols whole groups spelled bits bits_of
-symbols_not_staying p = let e : ◌≡◌ {A = ℕ} 0 1 = ap place_of_symbol_step p in omega arith
+symbols_not_repeating place p = let e : ◌≡◌ {A = ℕ} 31 28 = ap value_of_step p.given in omega arith
 
-pub symbols_not_repeating : SymbolGiven (255 ∷ []) (record { at = 1 }) (step.Symbol 31 (record { at = 2 })) → ⊥
+pub symbols_not_ending_early : (place : ℕ × ℕ) (after : BytesToSymbols) → SymbolGiven (symbols_walk place (255 ∷ []) 1) None after → ⊥
 unfolding symbol_step to_symbols whole groups spelled bits bits_of
-symbols_not_repeating p = let e : ◌≡◌ {A = ℕ} 31 28 = ap symbol_of_symbol_step p in omega arith
+symbols_not_ending_early place after p = let e : ◌≡◌ {A = ℕ} 0 1 = ap given_of_step p.given in omega arith
 
-pub symbols_not_ending_early : SymbolGiven (255 ∷ []) (record { at = 1 }) step.End → ⊥
+pub symbols_not_going_on : (place : ℕ × ℕ)
+    → SymbolGiven (symbols_walk place (255 ∷ []) 2) (Some 0) (symbols_walk place (255 ∷ []) 3) → ⊥
 unfolding symbol_step to_symbols whole groups spelled bits bits_of
-symbols_not_ending_early p = let e : ◌≡◌ {A = ℕ} 0 1 = ap given_of_symbol_step p in omega arith
+symbols_not_going_on place p = let e : ◌≡◌ {A = ℕ} 1 0 = ap given_of_step p.given in omega arith
 
-pub symbols_not_going_on : SymbolGiven (255 ∷ []) (record { at = 2 }) (step.Symbol 0 (record { at = 3 })) → ⊥
-unfolding symbol_step to_symbols whole groups spelled bits bits_of
-symbols_not_going_on p = let e : ◌≡◌ {A = ℕ} 1 0 = ap given_of_symbol_step p in omega arith
+pub bytes_not_staying : (place : ℕ × ℕ)
+    → ByteGiven (bytes_walk place (31 ∷ 0 ∷ 31 ∷ 0 ∷ []) 0) (Some 248) (bytes_walk place (31 ∷ 0 ∷ 31 ∷ 0 ∷ []) 0) → ⊥
+unfolding after_byte to_bytes whole groups spelled bits bits_of
+bytes_not_staying place p = let e : ◌≡◌ {A = ℕ} 0 1 = ap (λ (w : SymbolsToBytes). w.at) p.left in omega arith
 
-pub bytes_not_staying : ByteGiven (31 ∷ 0 ∷ 31 ∷ 0 ∷ []) (record { at = 0 }) (byte.Byte 248 (record { at = 0 })) → ⊥
+pub bytes_not_repeating : (place : ℕ × ℕ)
+    → ByteGiven (bytes_walk place (31 ∷ 0 ∷ 31 ∷ 0 ∷ []) 1) (Some 248) (bytes_walk place (31 ∷ 0 ∷ 31 ∷ 0 ∷ []) 2) → ⊥
 unfolding byte_step to_bytes whole groups spelled bits bits_of
-bytes_not_staying p = let e : ◌≡◌ {A = ℕ} 0 1 = ap place_of_byte_step p in omega arith
+bytes_not_repeating place p = let e : ◌≡◌ {A = ℕ} 248 62 = ap value_of_step p.given in omega arith
 
-pub bytes_not_repeating : ByteGiven (31 ∷ 0 ∷ 31 ∷ 0 ∷ []) (record { at = 1 }) (byte.Byte 248 (record { at = 2 })) → ⊥
+pub bytes_not_ending_early : (place : ℕ × ℕ) (after : SymbolsToBytes) → ByteGiven (bytes_walk place (31 ∷ 0 ∷ 31 ∷ 0 ∷ []) 1) None after → ⊥
 unfolding byte_step to_bytes whole groups spelled bits bits_of
-bytes_not_repeating p = let e : ◌≡◌ {A = ℕ} 248 62 = ap byte_of_byte_step p in omega arith
+bytes_not_ending_early place after p = let e : ◌≡◌ {A = ℕ} 0 1 = ap given_of_step p.given in omega arith
 
-pub bytes_not_ending_early : ByteGiven (31 ∷ 0 ∷ 31 ∷ 0 ∷ []) (record { at = 1 }) byte.End → ⊥
+pub bytes_not_going_on : (place : ℕ × ℕ)
+    → ByteGiven (bytes_walk place (31 ∷ 0 ∷ 31 ∷ 0 ∷ []) 2) (Some 0) (bytes_walk place (31 ∷ 0 ∷ 31 ∷ 0 ∷ []) 3) → ⊥
 unfolding byte_step to_bytes whole groups spelled bits bits_of
-bytes_not_ending_early p = let e : ◌≡◌ {A = ℕ} 0 1 = ap given_of_byte_step p in omega arith
-
-pub bytes_not_going_on : ByteGiven (31 ∷ 0 ∷ 31 ∷ 0 ∷ []) (record { at = 2 }) (byte.Byte 0 (record { at = 3 })) → ⊥
-unfolding byte_step to_bytes whole groups spelled bits bits_of
-bytes_not_going_on p = let e : ◌≡◌ {A = ℕ} 1 0 = ap given_of_byte_step p in omega arith
+bytes_not_going_on place p = let e : ◌≡◌ {A = ℕ} 1 0 = ap given_of_step p.given in omega arith

@@ -18,7 +18,8 @@ use Rattle.iter.proofs.Bits.{mod_digit, bits_of_length, bits_of_add, bits_of_mod
 use Rattle.iter.proofs.Lengths.{padding_length}
 use Rattle.iter.proofs.Round.{none_left, is_set}
 use Rattle.numbers.specs.declared.Refusal.TheVariants.{PaddingLong, PaddingNotZero}
-use Rattle.std.specs.Prelude.{Ok, Err}
+use Rattle.std.specs.Prelude.{Ok, Err, None, slice_get}
+use Rattle.std.proofs.lemmas.Option.{slice_get-get_or}
 
 -- some bit is set exactly if the number is not zero
 any_bit : (k v : ℕ) → any is_set (bits_of k v) ≡ not (eqb (v % 2 ^ k) 0)
@@ -89,6 +90,11 @@ low_bits_of_last symbols (suc n) last all same few =
         ∙ sym (bits_of_mod 5 v)
         ∙ ap (bits_of 5) (ap (λ (i : ℕ). get_or symbols i 0 % 32) before ∙ same)
         ∙ bits_of_mod 5 last
+
+-- a list without a last number is empty
+pub none_last : (list : List ℕ) → slice_get list (length list - 1) ≡ None → length list ≡ 0
+none_last [] e = refl
+none_last (x ∷ list) e = let some = slice_get-get_or (x ∷ list) (length (x ∷ list) - 1) 0 (omega arith) in cc
 
 pub padding_none : (symbols : List ℕ) → length symbols ≡ 0 → Ok tt ≡ padding_verdict symbols
 unfolding padding_verdict padding_long padding_not_zero
