@@ -25,7 +25,7 @@ use Rattle.polynomial.specs.Polynomials.{value_at, is_root}
 use Rattle.polynomial.specs.Answers.{root_from, first_root}
 use Rattle.polynomial.proofs.Values.{value_none, value_cons}
 use Rattle.detection.specs.Places.{Explains}
-use Rattle.detection.specs.Roots.{turns, value}
+use Rattle.detection.specs.Roots.{turns}
 use Rattle.detection.proofs.Orbit.{turns_nonzero}
 use Rattle.detection.proofs.Values.{value_lt}
 use Rattle.detection.proofs.Syndromes.{Syndromes}
