@@ -1,14 +1,17 @@
 -- The root search: the terms c_i x^i of a polynomial at x sum up to its value, and each multiplied by b^i they are the terms at b x.
 use mathlib.Core.Path.{◌≡◌, refl, sym, ap, ap₂, ◌∙◌}
-use mathlib.Core.Bool.{Bool}
+use mathlib.Core.Bool.{Bool, true, false}
 use mathlib.Core.List.{List, [], ◌∷◌}
-use Prim.Native.Nat.{ℕ, suc, ◌+◌, ◌-◌, ◌<◌, ◌≤◌}
+use Prim.Native.Nat.{ℕ, zero, suc, ◌%◌, ◌+◌, ◌-◌, ◌<◌, ◌≤◌}
 use native.Mathlib.Numerals.{add-one}
 use native.Mathlib.Omega.{arith}
-use borrow.Author.Tests.{eq-eqb, ne_eqb, lt-ltb, le-ltb}
+use borrow.Author.Tests.{eq-eqb, ne_eqb, lt-ltb, le-ltb, ltb-true}
+use lib.Dec.{eqb, ltb}
 use lib.ListN.{length}
 use Rattle.std.specs.Prelude.{Some, None, Ok, Err}
 use Rattle.numbers.specs.declared.Refusal.{Refusal}
+use Rattle.numbers.specs.declared.Refusal.TheVariants.{ListPlace, DivisionByZero}
+use Rattle.laws.specs.Pick.{pick}
 use Rattle.laws.specs.Lists.{table, table_from, first_from}
 use Rattle.gf32_ext.specs.Field.{sum, product, power}
 use Rattle.gf32_ext.proofs.Field.{product_assoc, product_comm}
@@ -18,7 +21,7 @@ use Rattle.fieldvec.specs.Lists.{elements, listed, pointwise, multiplied_pointwi
 use Rattle.fieldvec.proofs.Build.{pointwise_length, table_length}
 use Rattle.fieldvec.proofs.Laws.{elements_length, elements_listed, pointwise_accepted, powers_accepted}
 use Rattle.polynomial.specs.Polynomials.{value_from, value_at, is_root}
-use Rattle.polynomial.specs.Answers.{root_from, root_after}
+use Rattle.polynomial.specs.Answers.{root_from, root_after, first_root}
 use Rattle.polynomial.proofs.Values.{value_at_one, value_none}
 
 -- ---- the terms c_i x^i
@@ -84,6 +87,29 @@ module _ (cs : List ℕ) (base k : ℕ) where
 
   pub none_after : 1023 ≤ root_from cs base k → None ≡ root_after cs base k
   none_after h = rw (le-ltb (root_from cs base k) 1023 h)
+
+first_from_le : (i n : ℕ) (f : ℕ → Bool) → i ≤ first_from i n f
+first_from_le i zero f = omega arith
+first_from_le i (suc n) f = by (f i) (first_from_le (suc i) n f)
+  where
+    by : (b : Bool) → suc i ≤ first_from (suc i) n f → i ≤ pick b i (first_from (suc i) n f)
+    by true later = omega arith
+    by false later = omega arith
+
+-- an exponent that is found is from k on, and below the group's order
+pub root_within : (p : FieldVec) (base k e : ℕ) → Ok (Some e) ≡ first_root p base k → (k ≤ e) × (e < 1023)
+unfolding first_root root_from
+root_within p base k e same =
+    by (ltb 7 p.len) (eqb (base % 1024) 0) (ltb (root_from (elements p) base k) 1023) refl same (first_from_le k (1023 - k) (λ e. is_root (elements p) (power base e)))
+  where
+    by : (a b c : Bool) → ltb (root_from (elements p) base k) 1023 ≡ c
+        → Ok (Some e) ≡ pick a (Err ListPlace) (pick b (Err DivisionByZero) (Ok (pick c (Some (root_from (elements p) base k)) None)))
+        → k ≤ root_from (elements p) base k → (k ≤ e) × (e < 1023)
+    by true b c t same low = cc
+    by false true c t same low = cc
+    by false false true t same low =
+        let found : e ≡ root_from (elements p) base k = cc in (omega arith, omega (arith, ltb-true (root_from (elements p) base k) 1023 t))
+    by false false false t same low = cc
 
 -- the list of terms that the code keeps
 abbrev pub kept : List ℕ → ℕ → FieldVec
