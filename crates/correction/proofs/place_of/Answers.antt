@@ -38,7 +38,8 @@ refused {A} q e same never = by_case q (e ∙ ap result_ok same) never
     by_case (Err m) e never = never m refl
 
 -- no place explains, so none is named
-unexplained : {residue constant : ℕ} {r : Option ℕ} → r ≡ None → ((p : ℕ) → Explains residue constant p → ⊥) → ok_or r NoSinglePlace ≡ place_verdict constant residue
+unexplained : {residue constant : ℕ} {r : Option ℕ} → r ≡ None → ((p : ℕ) → Explains residue constant p → ⊥)
+    → ok_or r NoSinglePlace ≡ place_verdict constant residue
 unexplained {residue} {constant} e none =
     ap (λ (o : Option ℕ). ok_or o NoSinglePlace) e ∙ sym (place_missing constant residue (λ p h. none p))
 
