@@ -58,7 +58,7 @@ lower_told = alike_below (λ c. lower_in (class_of c)) is_lower 256 tt
 
 -- ---- one byte, by the table
 
-entry : (classes : List ℕ) (c : ℕ) → ClassesGiven classes → c < 256 → get_or classes c 0 ≡ class_of c
+pub entry : (classes : List ℕ) (c : ℕ) → ClassesGiven classes → c < 256 → get_or classes c 0 ≡ class_of c
 entry classes c given byte = ap (λ (l : List ℕ). get_or l c 0) given ∙ tabulated class_of 256 c byte
 
 pub class_read : (classes : List ℕ) (c : ℕ) → ClassesGiven classes → c < 256 → symbol_in (get_or classes c 0) ≡ symbol c
@@ -102,17 +102,13 @@ unfolding outside_in upper_in lower_in
 joined_none = record { outside = refl; upper = refl; lower = refl }
 
 -- one character more in front
-pub joined_more : (given : List ℕ) (c classes : ℕ) (s : List ℕ) → ClassesGiven given → c < 256 → Joined classes s
-    → Joined (bit_or (get_or given c 0) classes) (c ∷ s)
-joined_more given c classes s right byte j = rw (entry given c right byte) more
-  where
-    more : Joined (bit_or (class_of c) classes) (c ∷ s)
-    more =
-        record {
-          outside = outside_or (class_of c) classes ∙ ap₂ (λ (a b : Bool). a || b) (outside_told c byte) j.outside ∙ not_and (is_symbol c) (all is_symbol s);
-          upper = upper_or (class_of c) classes ∙ ap₂ (λ (a b : Bool). a || b) (upper_told c byte) j.upper;
-          lower = lower_or (class_of c) classes ∙ ap₂ (λ (a b : Bool). a || b) (lower_told c byte) j.lower;
-        }
+pub joined_more : (c classes : ℕ) (s : List ℕ) → c < 256 → Joined classes s → Joined (bit_or (class_of c) classes) (c ∷ s)
+joined_more c classes s byte j =
+    record {
+      outside = outside_or (class_of c) classes ∙ ap₂ (λ (a b : Bool). a || b) (outside_told c byte) j.outside ∙ not_and (is_symbol c) (all is_symbol s);
+      upper = upper_or (class_of c) classes ∙ ap₂ (λ (a b : Bool). a || b) (upper_told c byte) j.upper;
+      lower = lower_or (class_of c) classes ∙ ap₂ (λ (a b : Bool). a || b) (lower_told c byte) j.lower;
+    }
 
 -- both cases in two lists
 pub joined_cases : (a b : ℕ) (s t : List ℕ) → Joined a s → Joined b t

@@ -9,13 +9,12 @@ use Rattle.laws.specs.Pick.{pick}
 use Rattle.laws.specs.Lists.{table}
 use Rattle.laws.specs.Xor.{◌⊕◌}
 use Rattle.paper.specs.Charset.{charset, symbol, is_symbol, letter}
-use Rattle.gf32.specs.declared.Quotient.TheVariants as quotient
-use Rattle.gf32.specs.declared.Meaning.TheVariants as meaning
+use Rattle.std.specs.Prelude.{Ok, Err}
+use Rattle.numbers.specs.declared.Refusal.TheVariants.{OutsideCharset}
 use Rattle.gf32.specs.Field.{sum, times_a, products, product, inverse, quotient}
 use Rattle.gf32.specs.Bytes.{meaning, character}
 use Rattle.gf32.specs.Classes.{class_of, symbol_in, outside_in, upper_in, lower_in, both_cases_in}
-use Rattle.gf32.specs.Numbers.{number_of_quotient, value_of_quotient, number_of_meaning}
-use Rattle.gf32.specs.Promises.{Added, Multiplied, Divided, ByteRead, ByteWritten, Lowered, ClassesGiven, SymbolTold, OutsideTold, BothCasesTold}
+use Rattle.gf32.specs.Promises.{Added, Multiplied, Divided, ByteRead, ByteWritten, Lowered, ClassesGiven, ClassRead, SymbolRead, SymbolTold, OutsideTold, BothCasesTold}
 
 -- a sum that keeps a coefficient both numbers have
 pub sum_not_or : Added 1 1 1 → ⊥
@@ -38,24 +37,24 @@ unfolding product products times_a ◌⊕◌
 product_not_square p = let e : ◌≡◌ {A = ℕ} 4 6 = p in omega arith
 
 -- a product for a quotient: 1 over a is 20
-pub quotient_not_product : Divided 1 2 (quotient.Value 2) → ⊥
+pub quotient_not_product : Divided 1 2 (Ok 2) → ⊥
 unfolding quotient product products times_a inverse ◌⊕◌
-quotient_not_product p = let e : ◌≡◌ {A = ℕ} 2 20 = ap value_of_quotient p in omega arith
+quotient_not_product p = let e : ◌≡◌ {A = ℕ} 2 20 = cc in omega arith
 
 -- zero over zero that is zero
-pub quotient_not_of_zero : Divided 0 0 (quotient.Value 0) → ⊥
+pub quotient_not_of_zero : Divided 0 0 (Ok 0) → ⊥
 unfolding quotient
-quotient_not_of_zero p = let e : ◌≡◌ {A = ℕ} 0 27 = ap number_of_quotient p in omega arith
+quotient_not_of_zero p = cc
 
 -- an upper-case character refused: Q
-pub reads_upper_case : ByteRead 81 (meaning.Refused 1) → ⊥
+pub reads_upper_case : ByteRead 81 (Err OutsideCharset) → ⊥
 unfolding meaning is_symbol symbol charset
-reads_upper_case p = let e : ◌≡◌ {A = ℕ} 1 0 = ap number_of_meaning p in omega arith
+reads_upper_case p = cc
 
 -- a character outside the charset read as a symbol: b
-pub reads_no_other : (v : ℕ) → ByteRead 98 (meaning.Symbol v) → ⊥
+pub reads_no_other : (v : ℕ) → ByteRead 98 (Ok v) → ⊥
 unfolding meaning is_symbol symbol charset
-reads_no_other v p = let e : ◌≡◌ {A = ℕ} 0 1 = ap number_of_meaning p in omega arith
+reads_no_other v p = cc
 
 -- the first two characters of the charset exchanged
 pub writes_not_exchanged : ByteWritten 0 112 → ⊥
@@ -85,6 +84,24 @@ classes_tell_case p = let e : ◌≡◌ {A = ℕ} 29 93 = ap (λ (r : List ℕ).
 pub classes_tell_symbols : ClassesGiven (replicate 256 128) → ⊥
 unfolding class_of is_symbol symbol charset
 classes_tell_symbols p = let e : ◌≡◌ {A = ℕ} 128 15 = ap (λ (r : List ℕ). get_or r 48 0) p in omega arith
+
+-- the class of A taken for that of a, which hides its case; and that of b, which is no symbol, taken for that of the symbol 0
+pub class_keeps_case : ClassRead 65 93 → ⊥
+unfolding class_of is_symbol symbol charset
+class_keeps_case p = let e : ◌≡◌ {A = ℕ} 93 61 = p in omega arith
+
+pub class_not_of_others : ClassRead 98 64 → ⊥
+unfolding class_of is_symbol symbol charset
+class_not_of_others p = let e : ◌≡◌ {A = ℕ} 64 192 = p in omega arith
+
+-- A read with its case still in its symbol, and b, which is no symbol, read as the symbol 0
+pub symbol_read_without_case : SymbolRead 65 61 → ⊥
+unfolding symbol charset
+symbol_read_without_case p = let e : ◌≡◌ {A = ℕ} 61 29 = p in omega arith
+
+pub symbol_read_not_of_others : SymbolRead 98 0 → ⊥
+unfolding symbol charset
+symbol_read_not_of_others p = let e : ◌≡◌ {A = ℕ} 0 32 = p in omega arith
 
 -- the class of a, symbol 29 in lower case, with its case kept; that of a byte outside the charset read as the symbol 0, which is q
 pub symbol_not_with_case : SymbolTold 93 93 → ⊥

@@ -1,18 +1,19 @@
 -- An answer as numbers, case by case: the number is 0 for a value and the refusal's own otherwise; what a refusal has no value for is 0.
 use mathlib.Core.Path.{◌≡◌, refl}
 use Prim.Native.Nat.{ℕ}
-use Rattle.gf32.specs.declared.Quotient.TheVariants as quotient
-use Rattle.gf32.specs.declared.Meaning.TheVariants as meaning
-use Rattle.gf32.specs.Numbers.{number_of_quotient, value_of_quotient, number_of_meaning, symbol_of_meaning}
+use Rattle.std.specs.Prelude.{Ok, Err}
+use Rattle.numbers.specs.declared.Refusal.{Refusal}
+use Rattle.numbers.specs.Numbers.{number_of, number_in}
+use Rattle.std.specs.Result.{result_unwrap_or}
 
-pub quotient_given : (v : ℕ) → (number_of_quotient (quotient.Value v) ≡ 0) × (value_of_quotient (quotient.Value v) ≡ v)
+pub quotient_given : (v : ℕ) → (number_in {A = ℕ} (Ok v) ≡ 0) × (result_unwrap_or {E = Refusal} (Ok v) 0 ≡ v)
 quotient_given v = (refl, refl)
 
-pub quotient_refused : (k : ℕ) → (number_of_quotient (quotient.Refused k) ≡ k) × (value_of_quotient (quotient.Refused k) ≡ 0)
+pub quotient_refused : (k : Refusal) → (number_in {A = ℕ} (Err k) ≡ number_of k) × (result_unwrap_or {T = ℕ} (Err k) 0 ≡ 0)
 quotient_refused k = (refl, refl)
 
-pub meaning_given : (v : ℕ) → (number_of_meaning (meaning.Symbol v) ≡ 0) × (symbol_of_meaning (meaning.Symbol v) ≡ v)
-meaning_given v = (refl, refl)
+pub meaning_given : (v : ℕ) → (number_in {A = ℕ} (Ok v) ≡ 0) × (result_unwrap_or {E = Refusal} (Ok v) 0 ≡ v)
+meaning_given = quotient_given
 
-pub meaning_refused : (k : ℕ) → (number_of_meaning (meaning.Refused k) ≡ k) × (symbol_of_meaning (meaning.Refused k) ≡ 0)
-meaning_refused k = (refl, refl)
+pub meaning_refused : (k : Refusal) → (number_in {A = ℕ} (Err k) ≡ number_of k) × (result_unwrap_or {T = ℕ} (Err k) 0 ≡ 0)
+meaning_refused = quotient_refused

@@ -1,12 +1,11 @@
 -- Wrong answers that the promises rule out, each one that a slip in the code would give. 32 is the element e.
-use mathlib.Core.Path.{◌≡◌, ap}
+use mathlib.Core.Path.{◌≡◌}
 use Prim.Native.Nat.{ℕ}
 use native.Mathlib.Omega.{arith}
 use Rattle.laws.specs.Xor.{◌⊕◌}
 use Rattle.gf32.specs.Field.{products, times_a, sum as sum32, product as product32}
-use Rattle.gf32_ext.specs.declared.Quotient.TheVariants as quotient
+use Rattle.std.specs.Prelude.{Ok}
 use Rattle.gf32_ext.specs.Field.{sum, product, inverse, inverse_of, quotient}
-use Rattle.gf32_ext.specs.Numbers.{number_of_quotient, value_of_quotient}
 use Rattle.gf32_ext.specs.Promises.{Added, Multiplied, Inverted, Divided}
 
 -- a sum that keeps a coefficient both elements have
@@ -29,25 +28,25 @@ unfolding product product32 products times_a sum32 ◌⊕◌
 square_not_e p = let e : ◌≡◌ {A = ℕ} 32 33 = p in omega arith
 
 -- the element itself over its norm, without the conjugate: 1 over e is e + 1
-pub inverse_not_itself : Inverted 32 (quotient.Value 32) → ⊥
+pub inverse_not_itself : Inverted 32 (Ok 32) → ⊥
 unfolding inverse_of inverse product product32 products times_a sum32 ◌⊕◌
-inverse_not_itself p = let e : ◌≡◌ {A = ℕ} 32 33 = ap value_of_quotient p in omega arith
+inverse_not_itself p = let e : ◌≡◌ {A = ℕ} 32 33 = cc in omega arith
 
 -- an inverse of zero
-pub inverse_not_of_zero : (v : ℕ) → Inverted 0 (quotient.Value v) → ⊥
+pub inverse_not_of_zero : (v : ℕ) → Inverted 0 (Ok v) → ⊥
 unfolding inverse_of
-inverse_not_of_zero v p = let e : ◌≡◌ {A = ℕ} 0 27 = ap number_of_quotient p in omega arith
+inverse_not_of_zero v p = cc
 
 -- a product for a quotient, and divisor and dividend exchanged: 1 over e is e + 1
-pub quotient_not_product : Divided 1 32 (quotient.Value 32) → ⊥
+pub quotient_not_product : Divided 1 32 (Ok 32) → ⊥
 unfolding quotient inverse product product32 products times_a sum32 ◌⊕◌
-quotient_not_product p = let e : ◌≡◌ {A = ℕ} 32 33 = ap value_of_quotient p in omega arith
+quotient_not_product p = let e : ◌≡◌ {A = ℕ} 32 33 = cc in omega arith
 
-pub quotient_not_exchanged : Divided 32 1 (quotient.Value 33) → ⊥
+pub quotient_not_exchanged : Divided 32 1 (Ok 33) → ⊥
 unfolding quotient inverse product product32 products times_a sum32 ◌⊕◌
-quotient_not_exchanged p = let e : ◌≡◌ {A = ℕ} 33 32 = ap value_of_quotient p in omega arith
+quotient_not_exchanged p = let e : ◌≡◌ {A = ℕ} 33 32 = cc in omega arith
 
 -- zero over zero that is zero
-pub quotient_not_of_zero : Divided 0 0 (quotient.Value 0) → ⊥
+pub quotient_not_of_zero : Divided 0 0 (Ok 0) → ⊥
 unfolding quotient
-quotient_not_of_zero p = let e : ◌≡◌ {A = ℕ} 0 27 = ap number_of_quotient p in omega arith
+quotient_not_of_zero p = cc

@@ -14,9 +14,10 @@ use Rattle.laws.specs.Lists.{all_below}
 use Rattle.laws.proofs.Below.{below}
 use Rattle.laws.proofs.Xor.{xor-laws}
 use Rattle.gf32.specs.Field.{products, times_a, sum as sum32, product as product32, inverse as inverse32, quotient as quotient32}
-use Rattle.gf32.specs.declared.Quotient.TheVariants as gf32
 use Rattle.gf32.proofs.Field.{fast, fast_is, divides as divides32, product_lt as product32-lt, product_comm as product32-comm, product_assoc as product32-assoc, product_⊕ as product32-⊕, ⊕_product as ⊕-product32}
-use Rattle.gf32_ext.specs.declared.Quotient.TheVariants.{Value, Refused}
+use Rattle.std.specs.Prelude.{Ok, Err}
+use Rattle.numbers.specs.declared.Refusal.{Refusal}
+use Rattle.numbers.specs.declared.Refusal.TheVariants.{DivisionByZero}
 use Rattle.gf32_ext.specs.Field.{low, high, packed, product, inverse, inverse_of, quotient}
 use Rattle.laws.proofs.First.{first_below_lem}
 use Rattle.gf32_ext.proofs.Field.{below1024, low_lt, high_lt, low_packed, high_packed, packed_lt, packed_zero, low_mod, high_mod, sum32_is, ⊕_lt32, product_is, product_lt, product_mod, product_comm, product_assoc, product_one, one_product, zero_product}
@@ -159,69 +160,69 @@ module _ (y : ℕ) (nonzero : y % 1024 ≡ 0 → ⊥) where
 
 -- ---- what the code finds out by dividing 1 by the norm
 
-refused_at_zero : (y : ℕ) → y % 1024 ≡ 0 → quotient32 1 (norm y) ≡ gf32.Refused 27
+refused_at_zero : (y : ℕ) → y % 1024 ≡ 0 → quotient32 1 (norm y) ≡ Err DivisionByZero
 unfolding quotient32
 refused_at_zero y z = rw (eq-eqb (norm y % 32) 0 (ap (λ (n : ℕ). n % 32) (zero_norm y z)))
 
-given_elsewhere : (y : ℕ) → (y % 1024 ≡ 0 → ⊥) → quotient32 1 (norm y) ≡ gf32.Value (scale y)
+given_elsewhere : (y : ℕ) → (y % 1024 ≡ 0 → ⊥) → quotient32 1 (norm y) ≡ Ok (scale y)
 unfolding quotient32
 given_elsewhere y d = rw (ne_eqb (norm y % 32) 0 (λ e. d (norm_zero y (sym (mod-eq_of_lt (norm_lt y)) ∙ e))))
 
-inverse_of_zero : (y : ℕ) → y % 1024 ≡ 0 → inverse_of y ≡ Refused 27
+inverse_of_zero : (y : ℕ) → y % 1024 ≡ 0 → inverse_of y ≡ Err DivisionByZero
 unfolding inverse_of
 inverse_of_zero y z = rw (eq-eqb (y % 1024) 0 z)
 
-pub inverse_of_nonzero : (y : ℕ) → (y % 1024 ≡ 0 → ⊥) → inverse_of y ≡ Value (inverse y)
+pub inverse_of_nonzero : (y : ℕ) → (y % 1024 ≡ 0 → ⊥) → inverse_of y ≡ Ok (inverse y)
 unfolding inverse_of
 inverse_of_nonzero y d = rw (ne_eqb (y % 1024) 0 d)
 
-pub none_by_norm : (y m : ℕ) → gf32.Refused m ≡ quotient32 1 (norm y) → Refused 27 ≡ inverse_of y
+pub none_by_norm : (y : ℕ) (m : Refusal) → Err m ≡ quotient32 1 (norm y) → Err m ≡ inverse_of y
 none_by_norm y m e = by (ℕ_discrete (y % 1024) 0)
   where
-    by : Dec (y % 1024 ≡ 0) → Refused 27 ≡ inverse_of y
-    by (yes z) = sym (inverse_of_zero y z)
-    by (no d) = absurd (let f : ◌≡◌ {A = ℕ} 0 1 = cc (e, given_elsewhere y d) in omega arith)
+    by : Dec (y % 1024 ≡ 0) → Err m ≡ inverse_of y
+    by (yes z) = e ∙ refused_at_zero y z ∙ sym (inverse_of_zero y z)
+    by (no d) = cc (e, given_elsewhere y d)
 
-pub found_by_norm : (y s : ℕ) → gf32.Value s ≡ quotient32 1 (norm y) → Value (reciprocal y s) ≡ inverse_of y
+pub found_by_norm : (y s : ℕ) → Ok s ≡ quotient32 1 (norm y) → Ok (reciprocal y s) ≡ inverse_of y
 found_by_norm y s e = by (ℕ_discrete (y % 1024) 0)
   where
-    by : Dec (y % 1024 ≡ 0) → Value (reciprocal y s) ≡ inverse_of y
-    by (yes z) = absurd (let f : ◌≡◌ {A = ℕ} 0 1 = cc (e, refused_at_zero y z) in omega arith)
+    by : Dec (y % 1024 ≡ 0) → Ok (reciprocal y s) ≡ inverse_of y
+    by (yes z) = cc (e, refused_at_zero y z)
     by (no d) = let same : s ≡ scale y = cc (e, given_elsewhere y d) in
-        ap (λ (n : ℕ). Value (reciprocal y n)) same ∙ sym (ap Value (inverse_is y d)) ∙ sym (inverse_of_nonzero y d)
+        ap (λ (n : ℕ). Ok (reciprocal y n)) same ∙ sym (ap Ok (inverse_is y d)) ∙ sym (inverse_of_nonzero y d)
 
 -- ---- division by way of the inverse
 
-none_to_divide : (t : Bool) (x v m : ℕ) → Refused m ≡ pick t (Refused 27) (Value v) → Refused 27 ≡ pick t (Refused 27) (Value (product x v))
-none_to_divide true x v m e = refl
-none_to_divide false x v m e = absurd (let f : ◌≡◌ {A = ℕ} 0 1 = cc in omega arith)
+none_to_divide : (t : Bool) (x v : ℕ) (m : Refusal) → Err m ≡ pick t (Err DivisionByZero) (Ok v) → Err m ≡ pick t (Err DivisionByZero) (Ok (product x v))
+none_to_divide true x v m e = e
+none_to_divide false x v m e = cc
 
-one_to_multiply : (t : Bool) (x v w : ℕ) → Value w ≡ pick t (Refused 27) (Value v) → Value (product x w) ≡ pick t (Refused 27) (Value (product x v))
-one_to_multiply true x v w e = absurd (let f : ◌≡◌ {A = ℕ} 0 1 = cc in omega arith)
-one_to_multiply false x v w e = let same : w ≡ v = cc in ap (λ (n : ℕ). Value (product x n)) same
+one_to_multiply : (t : Bool) (x v w : ℕ) → Ok w ≡ pick t (Err DivisionByZero) (Ok v) → Ok (product x w) ≡ pick t (Err DivisionByZero) (Ok (product x v))
+one_to_multiply true x v w e = cc
+one_to_multiply false x v w e = let same : w ≡ v = cc in ap (λ (n : ℕ). Ok (product x n)) same
 
-pub none_by_inverse : (x y m : ℕ) → Refused m ≡ inverse_of y → Refused 27 ≡ quotient x y
+pub none_by_inverse : (x y : ℕ) (m : Refusal) → Err m ≡ inverse_of y → Err m ≡ quotient x y
 unfolding inverse_of quotient
 none_by_inverse x y m e = none_to_divide (eqb (y % 1024) 0) x (inverse y) m e
 
-pub found_by_inverse : (x y w : ℕ) → Value w ≡ inverse_of y → Value (product x w) ≡ quotient x y
+pub found_by_inverse : (x y w : ℕ) → Ok w ≡ inverse_of y → Ok (product x w) ≡ quotient x y
 unfolding inverse_of quotient
 found_by_inverse x y w e = one_to_multiply (eqb (y % 1024) 0) x (inverse y) w e
 
 -- ---- what a quotient says
 
-pub no_quotient : (x y m : ℕ) → Refused m ≡ quotient x y → y % 1024 ≡ 0
+pub no_quotient : (x y : ℕ) (m : Refusal) → Err m ≡ quotient x y → y % 1024 ≡ 0
 unfolding quotient
 no_quotient x y m e = by (ℕ_discrete (y % 1024) 0)
   where
     by : Dec (y % 1024 ≡ 0) → y % 1024 ≡ 0
     by (yes z) = z
-    by (no d) = absurd (let f : ◌≡◌ {A = ℕ} 0 1 = cc (e, ne_eqb (y % 1024) 0 d) in omega arith)
+    by (no d) = absurd (cc (e, ne_eqb (y % 1024) 0 d))
 
-module _ (x y v : ℕ) (given : Value v ≡ quotient x y) where
+module _ (x y v : ℕ) (given : Ok v ≡ quotient x y) where
   pub divisor_nonzero : y % 1024 ≡ 0 → ⊥
   unfolding quotient
-  divisor_nonzero z = let f : ◌≡◌ {A = ℕ} 0 1 = cc (given, eq-eqb (y % 1024) 0 z) in omega arith
+  divisor_nonzero z = cc (given, eq-eqb (y % 1024) 0 z)
 
   quotient_is : v ≡ product x (inverse y)
   unfolding quotient

@@ -1,12 +1,12 @@
 -- GF(1024), from document 01, module 2: the extension of GF(32) of degree 2, in the Rust's representation (gf32_ext.rs): e with
 -- e^2 = e + 1 is added, and the element a0 + a1 e is the number a0 + 32 * a1. A number over 1023 counts by its remainder
 -- (docs/DECISIONS.md), so that every number has a meaning.
-use Rattle.std.specs.Prelude.{ℕ, zero, suc, ◌+◌, ◌*◌, ◌/◌, ◌%◌, eqb}
+use Rattle.std.specs.Prelude.{Result, Ok, Err, ℕ, zero, suc, ◌+◌, ◌*◌, ◌/◌, ◌%◌, eqb}
 use Rattle.laws.specs.Pick.{pick}
+use Rattle.numbers.specs.declared.Refusal.{Refusal}
+use Rattle.numbers.specs.declared.Refusal.TheVariants.{DivisionByZero}
 use Rattle.laws.specs.Lists.{first_below}
 use Rattle.gf32.specs.Field.{sum as sum32, product as product32}
-use Rattle.gf32_ext.specs.declared.Quotient.{Quotient}
-use Rattle.gf32_ext.specs.declared.Quotient.TheVariants.{Value, Refused}
 
 -- how many elements the field has
 abbrev pub field_order : ℕ
@@ -38,11 +38,11 @@ unfoldable pub inverse : ℕ → ℕ
 inverse y = first_below field_order (λ x. eqb (product x y) 1)
 
 -- document 01, answer 27: zero has no inverse, and no division by zero has a value, whatever is divided
-unfoldable pub inverse_of : ℕ → Quotient
-inverse_of y = pick (eqb (y % field_order) 0) (Refused 27) (Value (inverse y))
+unfoldable pub inverse_of : ℕ → Result ℕ Refusal
+inverse_of y = pick (eqb (y % field_order) 0) (Err DivisionByZero) (Ok (inverse y))
 
-unfoldable pub quotient : ℕ → ℕ → Quotient
-quotient x y = pick (eqb (y % field_order) 0) (Refused 27) (Value (product x (inverse y)))
+unfoldable pub quotient : ℕ → ℕ → Result ℕ Refusal
+quotient x y = pick (eqb (y % field_order) 0) (Err DivisionByZero) (Ok (product x (inverse y)))
 
 -- x multiplied with itself, n times x in all
 unfoldable pub power : ℕ → ℕ → ℕ

@@ -1,4 +1,3 @@
 pub mod Field
 pub mod Roots
-pub mod Numbers
 pub mod Promises

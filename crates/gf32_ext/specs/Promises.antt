@@ -1,7 +1,7 @@
 -- What each public function promises, and that two answers which keep the promise are equal.
-use Rattle.std.specs.Prelude.{◌≡◌, ℕ}
+use Rattle.std.specs.Prelude.{◌≡◌, Result, ℕ}
 use Rattle.laws.proofs.Bools.{same}
-use Rattle.gf32_ext.specs.declared.Quotient.{Quotient}
+use Rattle.numbers.specs.declared.Refusal.{Refusal}
 use Rattle.gf32_ext.specs.Field.{sum, product, inverse_of, quotient}
 
 -- gf32_ext::add
@@ -19,15 +19,15 @@ pub multiplied_once : (x y r s : ℕ) → Multiplied x y r → Multiplied x y s 
 multiplied_once x y r s p q = same p q
 
 -- gf32_ext::inverse
-abbrev pub Inverted : ℕ → Quotient → Type 0
+abbrev pub Inverted : ℕ → Result ℕ Refusal → Type 0
 Inverted y r = r ≡ inverse_of y
 
-pub inverted_once : (y : ℕ) (r s : Quotient) → Inverted y r → Inverted y s → r ≡ s
+pub inverted_once : (y : ℕ) (r s : Result ℕ Refusal) → Inverted y r → Inverted y s → r ≡ s
 inverted_once y r s p q = same p q
 
 -- gf32_ext::divide
-abbrev pub Divided : ℕ → ℕ → Quotient → Type 0
+abbrev pub Divided : ℕ → ℕ → Result ℕ Refusal → Type 0
 Divided x y r = r ≡ quotient x y
 
-pub divided_once : (x y : ℕ) (r s : Quotient) → Divided x y r → Divided x y s → r ≡ s
+pub divided_once : (x y : ℕ) (r s : Result ℕ Refusal) → Divided x y r → Divided x y s → r ≡ s
 divided_once x y r s p q = same p q

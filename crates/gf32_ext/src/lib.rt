@@ -8,20 +8,13 @@ ghost use Rattle.gf32_ext.specs.Field.{low, high, packed};
 ghost use Rattle.gf32_ext.specs.Roots.{root_generator};
 ghost use Rattle.gf32_ext.specs.Promises.{Added, Multiplied, Inverted, Divided};
 
-use numbers::DIVISION_BY_ZERO;
+use numbers::Refusal;
 
 // How many elements the field has.
 pub const FIELD_ORDER: u32 = 1024;
 
 // 1 + 6e, of order 1023. Its powers 24, 25 and 26 are roots of the checksum's generator.
 pub const ROOT_GENERATOR: u32 = 193;
-
-// What division gives.
-#[derive(Clone, Copy)]
-pub enum Quotient {
-    Value(u32),
-    Refused(u8),
-}
 
 pub fn add(x: u32, y: u32) -> u32
     ensures { Added x y result }
@@ -46,27 +39,22 @@ pub fn multiply(x: u32, y: u32) -> u32
 }
 
 // The conjugate over the norm: (a0 + a1 e)(a0 + a1 + a1 e) is a0^2 + a0 a1 + a1^2, which lies in GF(32) and is zero for zero alone.
-pub fn inverse(y: u32) -> Quotient
+pub fn inverse(y: u32) -> Result<u32, Refusal>
     ensures { Inverted y result }
 {
     let y0 = low_of(y);
     let y1 = high_of(y);
     let both = gf32::add(y0, y1);
     let norm = gf32::add(gf32::multiply(y0, both), gf32::multiply(y1, y1));
-    let gf32::Quotient::Value(scale) = gf32::divide(1, norm) else {
-        return Quotient::Refused(DIVISION_BY_ZERO);
-    };
-    Quotient::Value(pack(gf32::multiply(both, scale), gf32::multiply(y1, scale)))
+    let scale = gf32::divide(1, norm)?;
+    Ok(pack(gf32::multiply(both, scale), gf32::multiply(y1, scale)))
 }
 
 // Every zero divisor is refused, also where zero is divided.
-pub fn divide(x: u32, y: u32) -> Quotient
+pub fn divide(x: u32, y: u32) -> Result<u32, Refusal>
     ensures { Divided x y result }
 {
-    let Quotient::Value(reciprocal) = inverse(y) else {
-        return Quotient::Refused(DIVISION_BY_ZERO);
-    };
-    Quotient::Value(multiply(x, reciprocal))
+    Ok(multiply(x, inverse(y)?))
 }
 
 fn low_of(x: u32) -> u8
