@@ -1,6 +1,6 @@
 -- Document 01, "What must change shape": the iterators over symbols and bytes. A walk holds the slice that it was lent and the count of the
 -- values given, and every count is legal: what comes next is what stands there in the paper's list, and past its end nothing.
-use Rattle.std.specs.Prelude.{List, [], ◌∷◌, ℕ, zero, suc, ◌+◌, leb, length, Option, Some, None, slice_get}
+use Rattle.std.specs.Prelude.{List, [], ◌∷◌, ℕ, zero, suc, ◌+◌, leb, length, drop, Option, Some, None, slice_get}
 use Rattle.laws.specs.Pick.{pick}
 use Rattle.paper.specs.Bits.{to_bytes, to_symbols}
 use Rattle.iter.specs.declared.BytesToSymbols.{BytesToSymbols}
@@ -16,6 +16,13 @@ symbols_walk place bytes at = record { bytes = record { ref_ptr = place; now = b
 
 abbrev pub bytes_walk : ℕ × ℕ → List ℕ → ℕ → SymbolsToBytes
 bytes_walk place symbols at = record { symbols = record { ref_ptr = place; now = symbols }; at = at }
+
+-- what is left of the list that a walk goes over
+abbrev pub symbols_left : BytesToSymbols → List ℕ
+symbols_left walk = drop walk.at (to_symbols walk.bytes.now)
+
+abbrev pub bytes_left : SymbolsToBytes → List ℕ
+bytes_left walk = drop walk.at (to_bytes walk.symbols.now)
 
 -- what a walk gives next, and the walk after it
 unfoldable pub symbol_step : BytesToSymbols → Option ℕ

@@ -3,10 +3,12 @@
 #![tactic(auto)]
 
 ghost use Rattle.std.specs.Prelude.{◌≡◌, List, map, ℕ, ◌+◌, ◌-◌, ◌*◌, ◌/◌, ◌%◌, ◌^◌, ◌<◌, length, get_or};
+ghost use Rattle.std.specs.Iterator.{YieldsFirst, item_count};
 ghost use Rattle.paper.specs.Bits.{to_bytes, to_symbols};
 ghost use Rattle.paper.specs.Charset.{symbol};
 ghost use Rattle.answers.specs.Rules.{padding_verdict};
 ghost use Rattle.iter.specs.Writing.{Wrote, Gives};
+ghost use Rattle.iter.specs.Steps.{symbols_left, bytes_left};
 ghost use Rattle.iter.specs.Promises.{SymbolsCounted, BytesCounted, SymbolsWritten, BytesWritten, CharactersWritten, PaddingJudged, CharactersJudged, SymbolsBegun, SymbolGiven, BytesBegun, ByteGiven};
 
 use gf32::Classes;
@@ -97,6 +99,18 @@ impl<'a> BytesToSymbols<'a> {
     }
 }
 
+impl<'a> Iterator for BytesToSymbols<'a> {
+    type Item = u8;
+
+    ghost next_gives = { YieldsFirst symbols_left };
+
+    ghost remaining = { item_count symbols_left };
+
+    fn next(&mut self) -> Option<u8> {
+        BytesToSymbols::next(self)
+    }
+}
+
 // A walk over the bytes of a slice of symbols.
 #[derive(Clone, Copy)]
 pub struct SymbolsToBytes<'a> {
@@ -120,6 +134,18 @@ impl<'a> SymbolsToBytes<'a> {
         let byte = byte_at(&Plain, self.symbols, self.at);
         self.at += 1;
         Some(byte)
+    }
+}
+
+impl<'a> Iterator for SymbolsToBytes<'a> {
+    type Item = u8;
+
+    ghost next_gives = { YieldsFirst bytes_left };
+
+    ghost remaining = { item_count bytes_left };
+
+    fn next(&mut self) -> Option<u8> {
+        SymbolsToBytes::next(self)
     }
 }
 
