@@ -28,4 +28,4 @@ returns c =
     let a = c.args in
     address_finished a.prefix.now a.version a.program.now a.out.now c.symbols_for_bytes.result c.symbols_for_bytes.ensures c.requires.0
     c.bytes_to_symbols.result c.bytes_to_symbols.new.out c.bytes_to_symbols.ensures
-    c.for_version-code.result c.for_version-code.ensures _ c.finish.ensures
+    c.for_version.result c.for_version.ensures _ c.finish.ensures
