@@ -6,7 +6,7 @@ functions found here to the ones that the prover names.
 
 import os
 import re
-from dataclasses import dataclass
+from dataclasses import dataclass, replace
 from functools import cache
 from pathlib import Path
 
@@ -115,6 +115,7 @@ class Function:
     parameters: list
     lent: list      # those that are &mut
     result: bool    # it returns something
+    fields: list    # of a result that is a struct of its crate, the fields, if all of them are public
     clauses: dict   # of requires, ensures, ghost and what is none of these: the texts between the braces
     brought: dict   # what the file's `ghost use` lines bring
     attributes: str # what stands in `#[..]` above it
@@ -122,10 +123,20 @@ class Function:
 
 def functions(root, crate):
     """Every function of a crate, public or not."""
-    found = []
+    found, structs = [], {}
     for path in sorted((root / "crates" / crate / "src").rglob("*.rt")):
         text = read_without(RATTLE_SILENT, path)
+        structs |= structs_of(text)
         found += functions_of(text, module_of(root, path), path.relative_to(root).as_posix())
+    return [replace(function, fields=structs.get(function.result[2:], []), result=function.result not in ("", "->()")) for function in found]
+
+
+def structs_of(text):
+    """{struct: its fields, none where one of them is private}. A ghost field is no value."""
+    found = {}
+    for name, body in re.findall(r"\bstruct\s+(\w+)\s*\{([^}]*)\}", re.sub(r"\bghost\s+\w+\s*:\s*\{[^}]*\}", "", text)):
+        fields = re.findall(r"(?:^|,)\s*(pub\s+)?(?:pub\([^)]*\)\s*)?(\w+)\s*:", flat(body))
+        found[name] = [field for _, field in fields] if all(public for public, _ in fields) else []
     return found
 
 
@@ -152,7 +163,8 @@ def functions_of(text, module, file):
             attributes = step["attributes"] or ""
             public = bool("no_mangle" in attributes or step["pub"] and not step["within"])
             line = text.count("\n", 0, step.start("name")) + 1
-            found.append(Function(f"{scopes[-1]}::{step['name']}", file, line, public, *contract(text, step.end()), brought, attributes))
+            parameters, lent, result, clauses = contract(text, step.end())
+            found.append(Function(f"{scopes[-1]}::{step['name']}", file, line, public, parameters, lent, result, [], clauses, brought, attributes))
         elif step["scope"]:
             scopes.append(scopes[-1] + "::" + scope_name(step["scope"]))
         elif step[0] == "{":
@@ -177,7 +189,7 @@ CLAUSE = re.compile(r"\b(?:(ghost)(?:\s+\w+\s*:)?|(requires|ensures)(\*)?(?:\s+[
 
 
 def contract(text, at):
-    """What stands after a function's name: (parameters, those that are &mut, has a result, clauses)."""
+    """What stands after a function's name: (parameters, those that are &mut, the text of the result, clauses)."""
     start = text.find("(", past_angles(text, at))
     at = closing(text, start)
     parameters = re.findall(r"(?:^|,)\s*(?:mut\s+)?(?:&\s*(?:'\w+\s+)?(?:mut\s+)?)?(\w+)\s*(?=[:,]|$)", flat(text[start + 1:at]))
@@ -194,7 +206,7 @@ def contract(text, at):
             at = closing(text, brace)
             continue
         if brace < 0 or not clause:  # this brace opens the body
-            return parameters, [a or b for a, b in lent], result not in ("", "->()"), clauses
+            return parameters, [a or b for a, b in lent], result, clauses
         at = closing(text, brace)
         clauses["other" if clause[3] else clause[1] or clause[2]].append(text[brace + 1:at])
 

@@ -69,7 +69,9 @@ def ensures_problems(function):
         if not ARGUMENT.fullmatch(argument) or name not in own or whole:
             found.append(f"has an ensures with `{plain(argument)}`, which is no input, exit or result of the function")
     if function.result and not {"result", "result.now"} & {*said.arguments}:
-        found.append("has an ensures that does not speak of the result")
+        parts = {argument.removeprefix("result.") for argument in said.arguments if argument.startswith("result.")}
+        if not parts or parts != {*function.fields}:  # of a struct, each public field may stand for itself
+            found.append("has an ensures that does not speak of the result")
     return found + [f"has an ensures that does not speak of `{lent}.new`" for lent in function.lent if f"{lent}.new" not in said.arguments]
 
 
@@ -133,7 +135,7 @@ def fixed_by(declared, fact, name, seen):
 # What may be asked for all values of: types that hold data. A type of another kind could be one that nothing has.
 KIT = {"Prim.Native.Nat.ℕ", "mathlib.Core.List.List", "mathlib.Core.Bool.Bool"}
 KIT |= {f"{home}.{word}" for home in LIBRARY[:2] for word in ("ℕ", "List", "Bool", "Option", "Result", "⊤")}
-KIT |= {"Rattle.core.specs.declared.cmp.Ordering.Ordering", "Rattle.std.specs.Prelude.Ordering"}
+KIT |= {"Rattle.std.specs.declared.cmp.Ordering.Ordering"}
 OURS = re.compile(rf"Rattle\.(\w+)\.(?:specs|proofs)\.(.+)\.({NAME})")
 
 

@@ -12,26 +12,15 @@ use lib.Seq.{take_at, drop_at, take-suc, append_snoc, drop-drop, length-take-le,
 use Rattle.laws.specs.Lists.{Every}
 use Rattle.laws.proofs.Parts.{rest}
 use Rattle.paper.specs.Charset.{lower, letter}
-use Rattle.paper.specs.Checksum.{polymod, expand, six_symbols, checksum}
+use Rattle.paper.specs.Checksum.{six_symbols, checksum}
 use Rattle.answers.specs.Reading.{room_small, written_into}
 use Rattle.answers.specs.Writing.{written_string}
 use Rattle.gf32.specs.Bytes.{character}
-use Rattle.checksum.specs.Parameters.{constant_for}
-use Rattle.checksum.specs.declared.Checksum.{Checksum}
-use Rattle.checksum.specs.declared.Engine.{Engine}
-use Rattle.checksum.proofs.Written.{engine_writes}
 use Rattle.iter.proofs.Groups.{every_append}
 use Rattle.hrp.specs.Promises.{Folded}
 use Rattle.encode.proofs.Lengths.{written_length, check_small}
 use Rattle.numbers.specs.declared.Refusal.{Refusal}
 use Rattle.std.specs.Prelude.{Result}
-
--- an engine's residue once the target is in
-pub engine_shows : (code : Checksum) (prefix symbols : List ℕ) (new prefixed full target : Engine) (residue : ℕ)
-    → new.residue ≡ 1 → prefixed.residue ≡ polymod new.residue (expand (map lower prefix)) → full.residue ≡ polymod prefixed.residue symbols
-    → target.residue ≡ polymod full.residue (six_symbols (constant_for code)) → residue ≡ target.residue
-    → six_symbols residue ≡ checksum (constant_for code) prefix symbols
-engine_shows code prefix symbols new prefixed full target residue a b d e f = rw (f, e, d, b, a) (sym (engine_writes code prefix symbols))
 
 -- a part that reaches to the end, put back
 pub tail_put : (a : ℕ) (d tail : List ℕ) → put_mid a (length d - a) d tail ≡ take a d ++ tail

@@ -20,7 +20,8 @@ pub(crate) struct Frame<'a> {
 impl<'a> Frame<'a> {
     pub(crate) fn put_symbols(self, symbols: &[u8], out: &mut [u8])
         requires { (length self.prefix.now + 7 + length symbols.now ≤ length out.old) × Every (λ v. v < 32) symbols.now }
-        ensures { out.new ≡ written_string (constant_for self.entry.checksum) self.entry.prefix.now symbols.now ++ drop (length self.entry.prefix.now + 7 + length symbols.now) out.old }
+        ensures { out.new ≡ written_string (constant_for self.entry.checksum) self.entry.prefix.now symbols.now
+            ++ drop (length self.entry.prefix.now + 7 + length symbols.now) out.old }
     {
         let start = self.prefix.len() + 1;
         out[start..start + symbols.len()].copy_from_slice(symbols);
@@ -29,7 +30,8 @@ impl<'a> Frame<'a> {
 
     pub(crate) fn put_bytes(self, bytes: &[u8], out: &mut [u8])
         requires { length self.prefix.now + 7 + length (to_symbols bytes.now) ≤ length out.old }
-        ensures { out.new ≡ written_string (constant_for self.entry.checksum) self.entry.prefix.now (to_symbols bytes.now) ++ drop (length self.entry.prefix.now + 7 + length (to_symbols bytes.now)) out.old }
+        ensures { out.new ≡ written_string (constant_for self.entry.checksum) self.entry.prefix.now (to_symbols bytes.now)
+            ++ drop (length self.entry.prefix.now + 7 + length (to_symbols bytes.now)) out.old }
     {
         let start = self.prefix.len() + 1;
         let _ = iter::bytes_to_symbols(bytes, &mut out[start..]);
@@ -39,7 +41,8 @@ impl<'a> Frame<'a> {
     // The symbols stand after the separator's place already, so many of them; the rest of the string is put around them.
     fn finish(self, count: usize, out: &mut [u8])
         requires { (length self.prefix.now + 7 + count ≤ length out.old) × Every (λ v. v < 32) (take count (drop (length self.prefix.now + 1) out.old)) }
-        ensures { out.new ≡ written_string (constant_for self.entry.checksum) self.entry.prefix.now (take count (drop (length self.entry.prefix.now + 1) out.old)) ++ drop (length self.entry.prefix.now + 7 + count) out.old }
+        ensures { out.new ≡ written_string (constant_for self.entry.checksum) self.entry.prefix.now
+            (take count (drop (length self.entry.prefix.now + 1) out.old)) ++ drop (length self.entry.prefix.now + 7 + count) out.old }
     {
         let start = self.prefix.len() + 1;
         let residue = self.check_residue(&out[start..start + count]);
@@ -49,6 +52,7 @@ impl<'a> Frame<'a> {
     }
 
     // Its six symbols are the checksum.
+    #[tactic(auto, using(checksum::proofs::Written::engine_writes))]
     fn check_residue(self, symbols: &[u8]) -> u32
         ensures { six_symbols result ≡ checksum (constant_for self.entry.checksum) self.entry.prefix.now symbols.now }
     {
@@ -63,7 +67,8 @@ impl<'a> Frame<'a> {
 // The version is the first symbol, and says which checksum.
 pub(crate) fn put_address(prefix: &[u8], version: u8, program: &[u8], out: &mut [u8])
     requires { (length prefix.now + 7 + (1 + length (to_symbols program.now)) ≤ length out.old) × (version < 32) }
-    ensures { out.new ≡ written_address prefix.now version program.now ++ drop (length prefix.now + 7 + (1 + length (to_symbols program.now))) out.old }
+    ensures { out.new ≡ written_address prefix.now version program.now
+        ++ drop (length prefix.now + 7 + (1 + length (to_symbols program.now))) out.old }
 {
     let start = prefix.len() + 1;
     out[start] = version;

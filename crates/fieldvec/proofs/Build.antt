@@ -1,59 +1,63 @@
--- A loop that makes a list from seven zeros, one element a turn: after i turns the array is `front l zeros i`. And what stands at a
--- place of a list that is reversed, multiplied pointwise or tabulated, which is what such a loop stores.
+-- A list made place by place from seven zeros, and what stands at a place of the lists that are made so.
 use mathlib.Core.Path.{◌≡◌, refl, sym, ap, ap₂, ◌∙◌}
-use mathlib.Core.List.{List, [], ◌∷◌, ◌++◌, reverse, reverse_aux, reverse_aux-eq}
+use mathlib.Core.Bool.{Bool, true, false}
+use mathlib.Core.List.{List, [], ◌∷◌, ◌++◌}
 use Prim.Native.Nat.{ℕ, zero, suc, ◌+◌, ◌-◌, ◌<◌, ◌≤◌}
-use native.Mathlib.Nat.{not-suc-le-zero, le_of_suc-le-suc, suc-sub-suc}
-use native.Mathlib.Decide.{ℕ_discrete}
+use native.Mathlib.Nat.{not-suc-le-zero, le_of_suc-le-suc}
 use native.Mathlib.Omega.{arith}
-use lib.ListN.{length, drop, set, get_or, replicate, length-reverse}
-use lib.Seq.{get_or_at}
+use borrow.Author.Tests.{leb-true, leb-false}
+use lib.Dec.{leb}
+use lib.ListN.{length, set, get_or, replicate, get_or-append, length-append, length-replicate, length-set}
+use Rattle.std.proofs.lemmas.List.{get_or-replicate, get_or-append_right}
+use Rattle.std.proofs.lemmas.Grind.{same_number_lists}
+use Rattle.std.proofs.Common.{below_more, get_or-set_same, get_or-set_other}
 use Rattle.laws.specs.Lists.{table, table_from}
-use Rattle.laws.proofs.Front.{front, front_more, front_all}
 use Rattle.gf32_ext.specs.Field.{product}
 use Rattle.fieldvec.specs.declared.FieldVec.{FieldVec}
-use Rattle.fieldvec.specs.Lists.{listed, pointwise}
-
-abbrev pub zeros : List ℕ
-zeros = replicate 7 0
-
-rest_of_zeros : (m n : ℕ) → drop {A = ℕ} m (replicate n 0) ≡ replicate (n - m) 0
-rest_of_zeros zero n = let e : n ≡ n - 0 = omega arith in ap (λ (k : ℕ). replicate {A = ℕ} k 0) e
-rest_of_zeros (suc m) zero = let e : 0 ≡ 0 - suc m = omega arith in ap (λ (k : ℕ). replicate {A = ℕ} k 0) e
-rest_of_zeros (suc m) (suc n) = rest_of_zeros m n ∙ ap (λ (k : ℕ). replicate {A = ℕ} k 0) (sym (suc-sub-suc n m))
+use Rattle.fieldvec.specs.Lists.{listed, pointwise, ListedBy}
 
 abbrev pub made : List ℕ → ℕ → FieldVec
 made items n = record { items = items; len = n }
 
-module _ (l : List ℕ) (h : length l ≤ 7) (i : ℕ) where
-  pub fill_more : {items : List ℕ} {v : ℕ} → items ≡ front l zeros i → i < length l → v ≡ get_or l i 0 → set items i v ≡ front l zeros (i + 1)
-  fill_more e k d = ap₂ (λ (x : List ℕ) (y : ℕ). set x i y) e d ∙ front_more 0 l zeros i k (omega arith)
+zeros_after : (k : ℕ) → k < 7 → get_or {A = ℕ} (replicate 7 0) k 0 ≡ 0
+zeros_after k h = get_or-replicate 7 k 0 0 h
 
-  pub fill_all : {items : List ℕ} {n : ℕ} → items ≡ front l zeros i → i ≡ length l → n ≡ length l → made items n ≡ listed l
-  fill_all e d f =
-      ap₂ made (e ∙ front_all l zeros i d ∙ ap (λ (r : List ℕ). l ++ r) (rest_of_zeros (length l) 7)) f
+module _ (gives : ℕ → ℕ → Type 0) where
+  pub listed_none : ListedBy gives 0 (made (replicate 7 0) 0)
+  listed_none = record { counted = refl; full = refl; placed = λ k h. absurd (not-suc-le-zero h); after = λ k h. zeros_after k }
 
--- ---- what such a loop stores
+  pub listed_more : (items : List ℕ) (i v : ℕ) → ListedBy gives i (made items i) → i < 7 → gives i v
+      → ListedBy gives (i + 1) (made (set items i v) (i + 1))
+  listed_more items i v so_far room here = record {
+    counted = refl;
+    full = length-set items i v ∙ so_far.full;
+    placed = below_more _ i
+        (λ k h. rw (get_or-set_other items i k v 0 (λ e. absurd (omega arith))) (so_far.placed k h))
+        (rw (get_or-set_same items i v 0 (omega (arith, so_far.full))) here);
+    after = λ k h top. get_or-set_other items i k v 0 (λ e. absurd (omega arith)) ∙ so_far.after k (omega arith) top;
+  }
 
-reverse_last : (x : ℕ) (xs r : List ℕ) → get_or (reverse_aux xs (x ∷ r)) (length xs) 0 ≡ x
-reverse_last x xs r =
-    ap (λ (l : List ℕ). get_or l (length xs) 0) (reverse_aux-eq xs (x ∷ r)) ∙ get_or_at (reverse xs) x r 0 (length xs) (length-reverse xs)
+  pub listed_is : (t : FieldVec) (n : ℕ) (l : List ℕ) → ListedBy gives n t → n ≤ 7 → length l ≡ n
+      → ((k v : ℕ) → k < n → gives k v → v ≡ get_or l k 0) → t ≡ listed l
+  listed_is t n l by room same at =
+      ap₂ made
+      (same_number_lists t.items (l ++ replicate (7 - length l) 0) (by.full ∙ seven)
+      (λ k h. by_place k (omega (arith, by.full)) (leb n k) refl))
+      (by.counted ∙ sym same)
+    where
+      seven : 7 ≡ length (l ++ replicate {A = ℕ} (7 - length l) 0)
+      seven = omega (arith, length-append l (replicate {A = ℕ} (7 - length l) 0), length-replicate {A = ℕ} (7 - length l) 0)
 
-get_d_reverse_aux : (l r : List ℕ) (i : ℕ) → i < length l → get_or (reverse_aux l r) i 0 ≡ get_or l (length l - 1 - i) 0
-get_d_reverse_aux [] r i h = absurd (not-suc-le-zero h)
-get_d_reverse_aux (x ∷ xs) r i h = by (ℕ_discrete i (length xs)) (get_d_reverse_aux xs (x ∷ r) i)
-  where
-    by : Dec (i ≡ length xs) → (i < length xs → get_or (reverse_aux xs (x ∷ r)) i 0 ≡ get_or xs (length xs - 1 - i) 0)
-        → get_or (reverse_aux xs (x ∷ r)) i 0 ≡ get_or (x ∷ xs) (suc (length xs) - 1 - i) 0
-    by (yes e) later =
-        let none : suc (length xs) - 1 - i ≡ 0 = omega arith in
-        ap (λ (k : ℕ). get_or (reverse_aux xs (x ∷ r)) k 0) e ∙ reverse_last x xs r ∙ ap (λ (k : ℕ). get_or (x ∷ xs) k 0) (sym none)
-    by (no d) later =
-        let one : suc (length xs) - 1 - i ≡ suc (length xs - 1 - i) = omega (arith, d) in
-        later (omega (arith, d)) ∙ ap (λ (k : ℕ). get_or (x ∷ xs) k 0) (sym one)
+      by_place : (k : ℕ) → k < 7 → (b : Bool) → leb n k ≡ b → get_or t.items k 0 ≡ get_or (l ++ replicate (7 - length l) 0) k 0
+      by_place k top true e =
+          by.after k (leb-true n k e) top
+          ∙ sym (get_or-append_right l (replicate (7 - length l) 0) n k 0 same (leb-true n k e)
+          ∙ get_or-replicate (7 - length l) (k - n) 0 0 (omega (arith, leb-true n k e)))
+      by_place k top false e =
+          at k (get_or t.items k 0) (leb-false n k e) (by.placed k (leb-false n k e))
+          ∙ sym (get_or-append l (replicate (7 - length l) 0) 0 k (omega (arith, leb-false n k e)))
 
-pub reversed_at : (l : List ℕ) (i : ℕ) → i < length l → get_or (reverse l) i 0 ≡ get_or l (length l - 1 - i) 0
-reversed_at l i h = get_d_reverse_aux l [] i h
+-- ---- the lists that are made so
 
 pub pointwise_length : (xs ys : List ℕ) → length xs ≡ length ys → length (pointwise xs ys) ≡ length xs
 unfolding pointwise

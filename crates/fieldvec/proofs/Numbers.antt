@@ -1,21 +1,24 @@
 -- An answer as numbers, case by case: the number is 0 unless it refuses, and the refusal's own then; what a refusal has no value for is 0.
 use mathlib.Core.Path.{◌≡◌, refl}
+use mathlib.Core.Bool.{Bool, true, false}
 use Prim.Native.Nat.{ℕ}
-use Rattle.fieldvec.specs.declared.Element.TheVariants as element
-use Rattle.fieldvec.specs.declared.Equality.TheVariants as equality
-use Rattle.fieldvec.specs.Numbers.{number_of_element, value_of_element, number_of_equality, value_of_equality}
+use Rattle.std.specs.Prelude.{Ok, Err}
+use Rattle.std.specs.Result.{result_unwrap_or}
+use Rattle.numbers.specs.declared.Refusal.{Refusal}
+use Rattle.numbers.specs.Numbers.{number_of, number_in}
+use Rattle.fieldvec.specs.Numbers.{truth_in}
 
-pub element_given : (v : ℕ) → (number_of_element (element.Value v) ≡ 0) × (value_of_element (element.Value v) ≡ v)
+pub element_given : (v : ℕ) → (number_in {A = ℕ} (Ok v) ≡ 0) × (result_unwrap_or {E = Refusal} (Ok v) 0 ≡ v)
 element_given v = (refl, refl)
 
-pub element_refused : (k : ℕ) → (number_of_element (element.Refused k) ≡ k) × (value_of_element (element.Refused k) ≡ 0)
+pub element_refused : (k : Refusal) → (number_in {A = ℕ} (Err k) ≡ number_of k) × (result_unwrap_or {T = ℕ} (Err k) 0 ≡ 0)
 element_refused k = (refl, refl)
 
-pub equality_same : (number_of_equality equality.Same ≡ 0) × (value_of_equality equality.Same ≡ 1)
+pub equality_same : (number_in (Ok true) ≡ 0) × (truth_in (Ok true) ≡ 1)
 equality_same = (refl, refl)
 
-pub equality_different : (number_of_equality equality.Different ≡ 0) × (value_of_equality equality.Different ≡ 0)
+pub equality_different : (number_in (Ok false) ≡ 0) × (truth_in (Ok false) ≡ 0)
 equality_different = (refl, refl)
 
-pub equality_refused : (k : ℕ) → (number_of_equality (equality.Refused k) ≡ k) × (value_of_equality (equality.Refused k) ≡ 0)
+pub equality_refused : (k : Refusal) → (number_in {A = Bool} (Err k) ≡ number_of k) × (truth_in (Err k) ≡ 0)
 equality_refused k = (refl, refl)

@@ -11,17 +11,17 @@ use borrow.Author.Tests.{leb-false, lt-leb, le-ltb, ne_eqb}
 use lib.Dec.{leb, ltb, eqb}
 use lib.ListN.{length, take, drop, set, get_or, replicate}
 use lib.Seq.{get_or-set_same, get_or-set_other, take-set-le}
+use Rattle.std.specs.Prelude.{⊤, Result, Ok, Err}
+use Rattle.std.specs.Result.{result_unwrap_or}
 use Rattle.laws.specs.Pick.{pick}
+use Rattle.numbers.specs.declared.Refusal.{Refusal}
+use Rattle.numbers.specs.declared.Refusal.TheVariants.{ListFull}
 use Rattle.laws.specs.Lists.{Every, table, table_from}
 use Rattle.gf32_ext.specs.Field.{power}
 use Rattle.gf32_ext.proofs.Field.{product_lt}
 use Rattle.gf32_ext.proofs.Powers.{power_lt}
 use Rattle.fieldvec.specs.declared.FieldVec.{FieldVec}
-use Rattle.fieldvec.specs.declared.Changed.{Changed}
-use Rattle.fieldvec.specs.declared.Popped.{Popped}
-use Rattle.fieldvec.specs.declared.Element.TheVariants as element
-use Rattle.fieldvec.specs.Lists.{elements, Narrow, listed, accepted, refused, pushed, popped_back, popped_front, got, pointwise, multiplied_pointwise, reversed, symbol_of, lifted, powers_given}
-use Rattle.fieldvec.specs.Numbers.{value_of_element}
+use Rattle.fieldvec.specs.Lists.{elements, Narrow, listed, given, left, pushed, popped_back, popped_front, got, pointwise, multiplied_pointwise, reversed, symbol_of, lifted, powers_given}
 use Rattle.fieldvec.specs.Promises.{Pushed, Narrowed}
 use Rattle.fieldvec.proofs.Laws.{elements_pushed, elements_popped}
 
@@ -32,50 +32,50 @@ narrowed_whole e small promise = promise ∙ ap (λ (n : ℕ). n % 1024) e ∙ m
 
 -- ---- an element that is pushed is read back whole; that the array has seven numbers is what its type says
 
-room : (t u : FieldVec) (b : Bool) → leb 7 t.len ≡ b → (pick b (refused 25 t) (accepted u)).number ≡ 0 → t.len < 7
-room t u true e h = absurd (omega arith)
+room : (t u : FieldVec) (b : Bool) → leb 7 t.len ≡ b → Ok tt ≡ given (pick {A = Result (⊤ × FieldVec) Refusal} b (Err ListFull) (Ok (tt, u))) → t.len < 7
+room t u true e h = absurd (cc)
 room t u false e h = leb-false 7 t.len e
 
-module _ (t : FieldVec) (v : ℕ) (r : Changed) (seven : length t.items ≡ 7) (promise : Pushed t v r) (taken : r.number ≡ 0) where
+module _ (t : FieldVec) (v : ℕ) (r : Result ⊤ Refusal) (u : FieldVec) (seven : length t.items ≡ 7) (promise : Pushed t v r u) (taken : r ≡ Ok tt) where
   fits : t.len < 7
   unfolding pushed
-  fits = room t _ (leb 7 t.len) refl (sym (ap (λ (c : Changed). c.number) promise) ∙ taken)
+  fits = room t _ (leb 7 t.len) refl (sym taken ∙ promise.result)
 
   -- the list is the one that was, with the element at its end
-  pub pushed_whole : v < 1024 → elements r.list ≡ elements t ++ v ∷ []
+  pub pushed_whole : v < 1024 → elements u ≡ elements t ++ v ∷ []
   pushed_whole small =
-      ap (λ (c : Changed). elements c.list) promise ∙ elements_pushed t v fits seven
+      ap elements promise.list ∙ elements_pushed t v fits seven
       ∙ ap (λ (w : ℕ). elements t ++ w ∷ []) (mod-eq_of_lt small)
 
-  pub read_back : v < 1024 → got r.list t.len ≡ element.Value v
+  pub read_back : v < 1024 → got u t.len ≡ Ok v
   unfolding pushed got
   read_back small =
       let k : t.len < length t.items = omega (arith, fits) in
-      ap (λ (c : Changed). got c.list t.len) promise
+      ap (λ (w : FieldVec). got w t.len) promise.list
       ∙ rw (lt-leb _ _ fits, le-ltb 7 (t.len + 1) (omega (arith, fits)), lt-leb (t.len + 1) t.len (omega arith), get_or-set_same t.items t.len (v % 1024) 0 k, mod-eq_of_lt small)
-      (ap element.Value (mod-eq_of_lt small))
+      (ap Ok (mod-eq_of_lt small))
 
-  pub earlier_kept : (i : ℕ) → i < t.len → got r.list i ≡ got t i
+  pub earlier_kept : (i : ℕ) → i < t.len → got u i ≡ got t i
   unfolding pushed got
   earlier_kept i below =
-      ap (λ (c : Changed). got c.list i) promise
+      ap (λ (w : FieldVec). got w i) promise.list
       ∙ rw (lt-leb _ _ fits, le-ltb 7 (t.len + 1) (omega (arith, fits)), le-ltb 7 t.len (omega (arith, fits)), lt-leb (t.len + 1) i (omega arith), lt-leb t.len i below, get_or-set_other t.items t.len i (v % 1024) 0 (λ e. absurd (omega arith)))
 
   -- a pop gives the element back, and the list as it was
-  pub popped_back_lem : v < 1024 → (popped_back r.list).value ≡ v
+  pub popped_back_lem : v < 1024 → given (popped_back u) ≡ Ok v
   unfolding pushed popped_back
   popped_back_lem small =
       let k : t.len < length t.items = omega (arith, fits) in
       let e : t.len + 1 - 1 ≡ t.len = omega arith in
-      ap (λ (c : Changed). (popped_back c.list).value) promise
+      ap (λ (w : FieldVec). given (popped_back w)) promise.list
       ∙ rw (lt-leb _ _ fits, ne_eqb (t.len + 1) 0 (λ d. absurd (omega arith)), le-ltb 7 (t.len + 1) (omega (arith, fits)), e, get_or-set_same t.items t.len (v % 1024) 0 k, mod-eq_of_lt small)
-      (mod-eq_of_lt small)
+      (ap Ok (mod-eq_of_lt small))
 
-  pub list_back : elements (popped_back r.list).list ≡ elements t
+  pub list_back : elements (left u (popped_back u)) ≡ elements t
   unfolding pushed
   list_back =
       let e : t.len + 1 - 1 ≡ t.len = omega arith in
-      ap (λ (c : Changed). elements (popped_back c.list).list) promise
+      ap (λ (w : FieldVec). elements (left w (popped_back w))) promise.list
       ∙ rw (lt-leb _ _ fits)
       (elements_popped (record { items = set t.items t.len (v % 1024); len = t.len + 1 }) (omega arith) (omega (arith, fits))
       ∙ ap (λ (n : ℕ). take n (set t.items t.len (v % 1024))) e
@@ -137,61 +137,65 @@ either : {A : Type 0} (P : A → Type 0) (b : Bool) (x y : A) → P x → P y �
 either P true x y p q = p
 either P false x y p q = q
 
-abbrev NarrowChanged : Changed → Type 0
-NarrowChanged r = Narrow r.list
+-- a list that is made, if it is
+abbrev NarrowMade : Result FieldVec Refusal → Type 0
+NarrowMade r = Narrow (result_unwrap_or r (listed []))
 
--- a popped element is below 1024 too
-abbrev pub NarrowPopped : Popped → Type 0
-NarrowPopped r = (r.value < 1024) × Narrow r.list
+-- the list that is left, and an element that is given
+abbrev NarrowLeft : FieldVec → Result (⊤ × FieldVec) Refusal → Type 0
+NarrowLeft t r = Narrow (left t r)
+
+abbrev pub NarrowPopped : FieldVec → Result (ℕ × FieldVec) Refusal → Type 0
+NarrowPopped t r = (result_unwrap_or (given r) 0 < 1024) × Narrow (left t r)
 
 pub new_narrow : Narrow (listed [])
 new_narrow = small_listed [] tt
 
-pub lifted_narrow : (symbols : List ℕ) → Narrow (lifted symbols).list
+pub lifted_narrow : (symbols : List ℕ) → Narrow (result_unwrap_or (lifted symbols) (listed []))
 unfolding lifted
-lifted_narrow symbols = either NarrowChanged (ltb 7 (length symbols)) _ _ new_narrow (small_listed (map symbol_of symbols) (small_symbols symbols))
+lifted_narrow symbols = either NarrowMade (ltb 7 (length symbols)) _ _ new_narrow (small_listed (map symbol_of symbols) (small_symbols symbols))
 
-pub powers_narrow : (base n : ℕ) → Narrow (powers_given base n).list
+pub powers_narrow : (base n : ℕ) → Narrow (result_unwrap_or (powers_given base n) (listed []))
 unfolding powers_given
-powers_narrow base n = either NarrowChanged (ltb 7 n) _ _ new_narrow (small_listed (table (power base) n) (small_powers base 0 n))
+powers_narrow base n = either NarrowMade (ltb 7 n) _ _ new_narrow (small_listed (table (power base) n) (small_powers base 0 n))
 
-pub got_narrow : (t : FieldVec) (i : ℕ) → value_of_element (got t i) < 1024
+pub got_narrow : (t : FieldVec) (i : ℕ) → result_unwrap_or (got t i) 0 < 1024
 unfolding got
 got_narrow t i =
-    either (λ a. value_of_element a < 1024) (ltb 7 t.len) _ _ (omega arith)
-    (either (λ a. value_of_element a < 1024) (leb t.len i) _ _ (omega arith) (by_remainder (get_or t.items i 0)))
+    either (λ (a : Result ℕ Refusal). result_unwrap_or a 0 < 1024) (ltb 7 t.len) _ _ (omega arith)
+    (either (λ (a : Result ℕ Refusal). result_unwrap_or a 0 < 1024) (leb t.len i) _ _ (omega arith) (by_remainder (get_or t.items i 0)))
 
 module _ (t : FieldVec) (p : Narrow t) where
   small_elements : Small (elements t)
   small_elements = small_take t.len t.items p
 
-  pub pushed_narrow : (v : ℕ) → Narrow (pushed t v).list
+  pub pushed_narrow : (v : ℕ) → Narrow (left t (pushed t v))
   unfolding pushed
-  pushed_narrow v = either NarrowChanged (leb 7 t.len) _ _ p (small_set t.items t.len (v % 1024) (by_remainder v) p)
+  pushed_narrow v = either (NarrowLeft t) (leb 7 t.len) _ _ p (small_set t.items t.len (v % 1024) (by_remainder v) p)
 
-  pub popped_narrow : NarrowPopped (popped_back t)
+  pub popped_narrow : NarrowPopped t (popped_back t)
   unfolding popped_back
   popped_narrow =
-      either NarrowPopped (eqb t.len 0) _ _ (omega arith, p)
-      (either NarrowPopped (ltb 7 t.len) _ _ (omega arith, p)
+      either (NarrowPopped t) (eqb t.len 0) _ _ (omega arith, p)
+      (either (NarrowPopped t) (ltb 7 t.len) _ _ (omega arith, p)
       (by_remainder (get_or t.items (t.len - 1) 0), small_set t.items (t.len - 1) 0 (omega arith) p))
 
-  pub popped_front_narrow : NarrowPopped (popped_front t)
+  pub popped_front_narrow : NarrowPopped t (popped_front t)
   unfolding popped_front
   popped_front_narrow =
-      either NarrowPopped (eqb t.len 0) _ _ (omega arith, p)
-      (either NarrowPopped (ltb 7 t.len) _ _ (omega arith, p)
+      either (NarrowPopped t) (eqb t.len 0) _ _ (omega arith, p)
+      (either (NarrowPopped t) (ltb 7 t.len) _ _ (omega arith, p)
       (by_remainder (get_or t.items 0 0), small_listed (drop 1 (elements t)) (small_drop 1 (elements t) small_elements)))
 
-  pub reversed_narrow : Narrow (reversed t).list
+  pub reversed_narrow : Narrow (left t (reversed t))
   unfolding reversed
-  reversed_narrow = either NarrowChanged (ltb 7 t.len) _ _ p (small_listed (reverse (elements t)) (small_reverse (elements t) [] small_elements tt))
+  reversed_narrow = either (NarrowLeft t) (ltb 7 t.len) _ _ p (small_listed (reverse (elements t)) (small_reverse (elements t) [] small_elements tt))
 
-  pub multiplied_narrow : (u : FieldVec) → Narrow (multiplied_pointwise t u).list
+  pub multiplied_narrow : (u : FieldVec) → Narrow (left t (multiplied_pointwise t u))
   unfolding multiplied_pointwise
   multiplied_narrow u =
-      either NarrowChanged (eqb t.len u.len) _ _
-      (either NarrowChanged (ltb 7 t.len) _ _ p (small_listed (pointwise (elements t) (elements u)) (small_products (elements t) (elements u)))) p
+      either (NarrowLeft t) (eqb t.len u.len) _ _
+      (either (NarrowLeft t) (ltb 7 t.len) _ _ p (small_listed (pointwise (elements t) (elements u)) (small_products (elements t) (elements u)))) p
 
 -- ---- so a stored number that is widened, and narrowed again by its remainder, is the same
 

@@ -1,22 +1,16 @@
 -- The library's words for case, as the definitions have them.
-use mathlib.Core.Path.{◌≡◌, refl, sym, ap, ap₂, ◌∙◌}
+use mathlib.Core.Path.{◌≡◌, refl, sym, ap₂, ◌∙◌}
 use mathlib.Core.Logic.{◌↔◌}
 use mathlib.Core.Bool.{Bool, true, false}
 use mathlib.Core.List.{List, [], ◌∷◌, map}
 use Prim.Native.Nat.{ℕ}
-use native.Mathlib.Omega.{arith}
-use lib.Dec.{ltb}
-use borrow.Author.Tests.{ltb-true, ltb-false, eq-eqb, ne_eqb}
 use Rattle.std.specs.Prelude.{IsTrue}
 use Rattle.std.specs.Char.{to_ascii_lowercase}
-use Rattle.std.specs.Ordering.{nat_cmp, ordering_then}
+use Rattle.std.specs.Ordering.{nat_cmp}
 use Rattle.std.specs.Cmp.Lexicographic.{slice_cmp}
 use Rattle.std.proofs.lemmas.Str.Ascii.{lowercase_is}
-use Rattle.std.specs.declared.cmp.Ordering.{Ordering}
-use Rattle.std.specs.declared.cmp.Ordering.TheVariants.{Less, Greater}
-use Rattle.laws.specs.Pick.{pick}
 use Rattle.paper.specs.Charset.{lower}
-use Rattle.hrp.specs.Compare.{order, same_case_aside, order_case_aside}
+use Rattle.hrp.specs.Compare.{same_case_aside, order_case_aside}
 use Rattle.hrp.proofs.Case.{by_case}
 use Rattle.hrp.proofs.Ordering.{same_exactly}
 
@@ -37,21 +31,7 @@ same_folded a b r h = by r (same_case_aside a b) h (same_exactly a b)
     by true false h k = sym (k.1 (sym (ascii_folded a) ∙ h.0 refl ∙ ascii_folded b))
     by false true h k = h.1 (ascii_folded a ∙ k.0 refl ∙ sym (ascii_folded b))
 
--- the order of two numbers, and of two lists
-step : (x y : ℕ) (o : Ordering) → ordering_then (nat_cmp x y) o ≡ pick (ltb x y) Less (pick (ltb y x) Greater o)
-step x y o = by (ltb x y) (ltb y x) refl refl
-  where
-    by : (l g : Bool) → ltb x y ≡ l → ltb y x ≡ g → ordering_then (nat_cmp x y) o ≡ pick l Less (pick g Greater o)
-    by true g p q = rw p
-    by false true p q = rw (p, ne_eqb x y (λ e. omega (arith, ltb-true y x q, e)))
-    by false false p q = rw (p, eq-eqb x y (omega (arith, ltb-false x y p, ltb-false y x q)))
-
-list_order : (a b : List ℕ) → slice_cmp nat_cmp a b ≡ order a b
-list_order [] [] = refl
-list_order [] (y ∷ ys) = refl
-list_order (x ∷ xs) [] = refl
-list_order (x ∷ xs) (y ∷ ys) = ap (ordering_then (nat_cmp x y)) (list_order xs ys) ∙ step x y (order xs ys)
-
+-- the order
 pub folded_order : (a b : List ℕ) → slice_cmp nat_cmp (map to_ascii_lowercase a) (map to_ascii_lowercase b) ≡ order_case_aside a b
 unfolding order_case_aside
-folded_order a b = ap₂ (slice_cmp nat_cmp) (ascii_folded a) (ascii_folded b) ∙ list_order (map lower a) (map lower b)
+folded_order a b = ap₂ (slice_cmp nat_cmp) (ascii_folded a) (ascii_folded b)

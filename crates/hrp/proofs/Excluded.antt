@@ -1,5 +1,6 @@
 -- Wrong answers that the promises rule out, each on a concrete input.
-use mathlib.Core.Path.{◌≡◌, ap}
+use mathlib.Core.Path.{◌≡◌, ap, sym}
+use Rattle.numbers.proofs.Numbers.{err_apart}
 use mathlib.Core.Bool.{true, false}
 use mathlib.Core.List.{List, [], ◌∷◌}
 use Prim.Native.Nat.{ℕ}
@@ -25,11 +26,11 @@ use Rattle.std.specs.Prelude.{Ok, Err}
 -- 83 bytes refused, 84 accepted
 pub not_83_refused : Checked (replicate 83 97) (Err PrefixLong) → ⊥
 unfolding prefix_verdict offence
-not_83_refused p = let e : ◌≡◌ {A = ℕ} 5 0 = ap number_in p in omega arith
+not_83_refused p = err_apart tt PrefixLong p
 
 pub not_84_accepted : Checked (replicate 84 97) (Ok tt) → ⊥
 unfolding prefix_verdict offence
-not_84_accepted p = let e : ◌≡◌ {A = ℕ} 0 5 = ap number_in p in omega arith
+not_84_accepted p = err_apart tt PrefixLong (sym p)
 
 -- a byte outside 33 to 126 refused as mixed case, two small letters taken for mixed case
 pub not_a_byte_as_case : Checked (bytes "a b") (Err MixedCase) → ⊥
@@ -38,7 +39,7 @@ not_a_byte_as_case p = let e : ◌≡◌ {A = ℕ} 2 6 = ap number_in p in omega
 
 pub not_one_case_mixed : Checked (bytes "ab") (Err MixedCase) → ⊥
 unfolding prefix_verdict offence
-not_one_case_mixed p = let e : ◌≡◌ {A = ℕ} 2 0 = ap number_in p in omega arith
+not_one_case_mixed p = err_apart tt MixedCase p
 
 -- another byte than the first that offends
 pub not_a_later_byte : Checked (bytes "aB ") (Err PrefixByte) → ⊥
@@ -53,7 +54,7 @@ not_a_later_letter p = let e : ◌≡◌ {A = ℕ} 2 6 = ap number_in p in omega
 
 pub not_just_enough_refused : Folded (bytes "BC") (9 ∷ 9 ∷ []) (Err RoomSmall) (9 ∷ 9 ∷ []) → ⊥
 unfolding written_into room_small
-not_just_enough_refused p = let e : ◌≡◌ {A = ℕ} 17 0 = ap number_in p.answer in omega arith
+not_just_enough_refused p = err_apart 2 RoomSmall p.answer
 
 pub not_the_room_as_count : (after : List ℕ) → Folded (bytes "BC") (9 ∷ 9 ∷ 9 ∷ []) (Ok 3) after → ⊥
 unfolding written_into room_small

@@ -1,7 +1,7 @@
 -- Symbols read from other numbers, as from characters.
 use mathlib.Core.Path.{◌≡◌, sym, ap, ◌∙◌}
 use mathlib.Core.List.{List, map}
-use Prim.Native.Nat.{ℕ, ◌*◌, ◌/◌, ◌<◌}
+use Prim.Native.Nat.{ℕ, ◌*◌, ◌/◌}
 use lib.ListN.{length, length-map}
 use Rattle.paper.specs.Charset.{symbol}
 use Rattle.paper.specs.Bits.{to_bytes}

@@ -18,6 +18,7 @@ use numbers::Refusal;
 const MAX_PADDING: usize = 4;
 
 // How many symbols bytes_to_symbols would write. The division comes first, so that no product overflows.
+#[tactic(auto, using(crate::proofs::Lengths::symbols_length))]
 pub fn symbols_for_bytes(bytes: &[u8]) -> usize
     ensures { SymbolsCounted bytes.now result }
 {
@@ -26,6 +27,7 @@ pub fn symbols_for_bytes(bytes: &[u8]) -> usize
 }
 
 // How many bytes symbols_to_bytes would write.
+#[tactic(auto, using(crate::proofs::Lengths::bytes_length))]
 pub fn bytes_for_symbols(symbols: &[u8]) -> usize
     ensures { BytesCounted symbols.now result }
 {
@@ -50,6 +52,7 @@ pub fn symbols_to_bytes(symbols: &[u8], out: &mut [u8]) -> Result<usize, Refusal
 }
 
 // The same from characters of the charset, of either case. A byte outside the charset, which readers refuse before, counts as symbol 0.
+#[tactic(auto, using(crate::proofs::Characters::characters_length))]
 pub fn characters_to_bytes(characters: &[u8], out: &mut [u8]) -> Result<usize, Refusal>
     ensures { CharactersWritten characters.now out.old result out.new }
 {
@@ -74,7 +77,7 @@ pub fn padding_of_characters(characters: &[u8]) -> Result<(), Refusal>
 }
 
 // A walk over the symbols of a slice of bytes: the slice, and how many it gave. Every count is a legal walk.
-#[derive(Clone, Copy)]
+#[derive(Clone, Drop)]
 pub struct BytesToSymbols<'a> {
     pub bytes: &'a [u8],
     pub at: usize,
@@ -109,10 +112,15 @@ impl<'a> Iterator for BytesToSymbols<'a> {
     fn next(&mut self) -> Option<u8> {
         BytesToSymbols::next(self)
     }
+
+    fn size_hint(&self) -> (usize, Option<usize>) {
+        let left = symbols_for_bytes(self.bytes).saturating_sub(self.at);
+        (left, Some(left))
+    }
 }
 
 // A walk over the bytes of a slice of symbols.
-#[derive(Clone, Copy)]
+#[derive(Clone, Drop)]
 pub struct SymbolsToBytes<'a> {
     pub symbols: &'a [u8],
     pub at: usize,
@@ -146,6 +154,11 @@ impl<'a> Iterator for SymbolsToBytes<'a> {
 
     fn next(&mut self) -> Option<u8> {
         SymbolsToBytes::next(self)
+    }
+
+    fn size_hint(&self) -> (usize, Option<usize>) {
+        let left = bytes_for_symbols(self.symbols).saturating_sub(self.at);
+        (left, Some(left))
     }
 }
 
@@ -227,6 +240,7 @@ fn symbol_at(bytes: &[u8], at: usize) -> u8
 }
 
 // Eight bits that start in the symbol `first` lie in three symbols.
+#[tactic(auto, using(crate::proofs::Places::first_symbol_in))]
 fn byte_at<R: Reading>(reading: &R, list: &[u8], at: usize) -> u8
     requires { at < length (to_bytes list.now) }
     ensures { result ≡ get_or (to_bytes (map R.symbol_of list.now)) at 0 }
@@ -254,8 +268,5 @@ fn byte_of(x: u8, y: u8, z: u8, offset: usize) -> u8
 fn nth<R: Reading>(reading: &R, list: &[u8], at: usize) -> u8
     ensures { result ≡ get_or (map R.symbol_of list.now) at 0 }
 {
-    if at < list.len() {
-        return reading.read(list[at]);
-    }
-    0
+    list.get(at).map_or(0, |byte| reading.read(*byte))
 }

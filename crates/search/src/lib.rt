@@ -108,7 +108,7 @@ fn walk(changes: u8, start: u32, places: u8, steps: &mut Steps) -> Result<Option
     ensures same_budget { steps.new.budget ≡ steps.old.budget }
 {
     let mut residue = start;
-    for place in (0..places).rev() {
+    'places: for place in (0..places).rev() {
         steps.spend()?;
         residue = step_zero(residue);
         if residue < 32 {
@@ -116,7 +116,7 @@ fn walk(changes: u8, start: u32, places: u8, steps: &mut Steps) -> Result<Option
         }
         // The last change was just looked for.
         if changes == 1 {
-            continue;
+            continue 'places;
         }
         if let Some(pattern) = try_symbols(changes - 1, residue, place, steps)? {
             return Ok(Some(pattern));

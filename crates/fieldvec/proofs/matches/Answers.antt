@@ -1,31 +1,20 @@
--- The comparison of two lists. The invariant: what is left of both is alike exactly if the whole is.
-use mathlib.Core.Path.{refl, sym, ◌∙◌}
-use native.Mathlib.Omega.{arith}
-use Rattle.fieldvec.proofs.Laws.{alike_unlike, alike_more, alike_stop, alike_done}
+-- Two lists are alike if they are as long and every pair of their elements is the same.
+use mathlib.Core.Path.{sym, ◌∙◌}
+use Prim.Native.Nat.{ℕ, ◌%◌}
+use borrow.Author.Tests.{ne_eqb, tests}
 use borrow.Author.Rules.{rules}
+use lib.Dec.{eqb}
+use Rattle.std.proofs.lemmas.Iterator.{YieldsList-from_slice, YieldsList-from_zip}
+use Rattle.std.proofs.lemmas.Iterator.Search.{all_from_yields_List}
+use Rattle.fieldvec.proofs.Laws.{alike_unlike, alike_pairs}
 use Rattle.fieldvec.proofs.matches.Goals as goal
 
 pub returns-then-s-t : goal.returns-then-s-t
-returns-then-s-t c = sym (alike_unlike c.args.s.now c.args.t.now c.if-s-t.true)
+returns-then-s-t c =
+    all_from_yields_List (λ (p : ℕ × ℕ). eqb (p.0 % 1024) (p.1 % 1024)) c.all.new.self _ _ c.all.ensures.ran
+    (YieldsList-from_zip (YieldsList-from_slice c.args.s.now cc) (YieldsList-from_slice c.args.t.now cc))
+    (λ x b q k. search (rules, tests))
+    ∙ sym (alike_pairs c.args.s.now c.args.t.now c.if-s-t.true)
 
-pub loop-i-init : goal.loop-i-init
-loop-i-init c = (search rules, search rules, refl)
-
-pub overflow_cast-s : goal.overflow_cast-s
-overflow_cast-s c = omega (arith, c.shared_slice_known-1.given c.loop-i.i)
-
-pub overflow_cast-t : goal.overflow_cast-t
-overflow_cast-t c = omega (arith, c.shared_slice_known-in-loop-i-1.given c.loop-i.i)
-
-pub returns-then-s-i : goal.returns-then-s-i
-returns-then-s-i c = alike_stop c.args.s.now c.args.t.now c.loop-i.i (search rules) (omega arith) c.if-s-i.true ∙ c.loop-i.invariant.2
-
-pub loop-i-preserved : goal.loop-i-preserved
-loop-i-preserved c = (
-  search rules,
-  search rules,
-  alike_more c.args.s.now c.args.t.now c.loop-i.i (search rules) (omega arith) c.if-s-i.false ∙ c.loop-i.invariant.2,
-)
-
-pub returns : goal.returns
-returns c = alike_done c.args.s.now c.args.t.now c.loop-i.i (omega arith) (omega arith) ∙ c.loop-i.invariant.2
+pub returns-else-s-t : goal.returns-else-s-t
+returns-else-s-t c = ne_eqb _ _ c.if-s-t.false ∙ sym (alike_unlike c.args.s.now c.args.t.now c.if-s-t.false)

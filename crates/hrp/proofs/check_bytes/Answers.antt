@@ -7,24 +7,24 @@ use Rattle.hrp.proofs.check_bytes.Goals as goal
 
 pub loop-byte-init : goal.loop-byte-init
 unfolding offence
-loop-byte-init c = refl
+loop-byte-init c = (refl, refl)
 
 pub returns-then-not-is_ascii_graphic : goal.returns-then-not-is_ascii_graphic
 returns-then-not-is_ascii_graphic c =
     let l = c.loop-byte in
     sym (offence_6 _ c.requires.0 c.requires.1
-    (not_printable _ l.byte-index l.upper l.lower l.invariant c.loop-byte-test.true
+    (not_printable _ l.byte-index l.upper l.lower l.invariant.0 c.loop-byte-test.true
     (sym c.is_ascii_graphic.ensures.value ∙ c.if-not-is_ascii_graphic.true)))
 
-pub returns-then-capital-lower : goal.returns-then-capital-lower
-returns-then-capital-lower c =
+pub returns-then-lower : goal.returns-then-lower
+returns-then-lower c =
     let l = c.loop-byte in
     sym (offence_2 _ c.requires.0 c.requires.1
-    (mixed _ l.byte-index l.upper l.lower l.invariant c.loop-byte-test.true
+    (mixed _ l.byte-index l.upper l.lower l.invariant.0 l.invariant.1 c.loop-byte-test.true
     (sym c.is_ascii_graphic.ensures.value ∙ c.if-not-is_ascii_graphic.false)
-    _ _ c.is_ascii_uppercase-capital.ensures.value c.is_ascii_lowercase-small.ensures.value c.if-capital-lower.true))
+    (rw (← c.is_ascii_uppercase-upper.ensures.value, ← c.is_ascii_lowercase-lower.ensures.value, c.if-upper.true, c.if-lower.true) refl)))
 
 pub returns : goal.returns
 returns c =
     let l = c.loop-byte in
-    sym (offence_0 _ c.requires.0 c.requires.1 (none_left _ l.byte-index l.upper l.lower l.invariant c.loop-byte-test.false))
+    sym (offence_0 _ c.requires.0 c.requires.1 (none_left _ l.byte-index l.upper l.lower l.invariant.0 c.loop-byte-test.false))

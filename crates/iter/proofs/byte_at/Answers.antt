@@ -1,23 +1,11 @@
 -- The byte at a place of a list that symbols are read from. What carries it: `byte_from`, the byte in three symbols.
-use mathlib.Core.Path.{◌≡◌, ap, sym, ◌∙◌, subst}
+use mathlib.Core.Path.{ap, ◌∙◌}
 use mathlib.Core.List.{map}
-use Prim.Native.Nat.{ℕ, ◌%◌, ◌<◌}
+use Prim.Native.Nat.{ℕ, ◌%◌}
 use native.Mathlib.Omega.{arith}
 use Rattle.iter.proofs.Characters.{read_length}
-use Rattle.iter.proofs.Places.{first_symbol_in, byte_from}
+use Rattle.iter.proofs.Places.{byte_from}
 use Rattle.iter.proofs.byte_at.Goals as goal
-
-pub overflow_mul-first : goal.overflow_mul-first
-overflow_mul-first g c = omega (arith, first_symbol_in c.args.list.now c.args.at c.requires)
-
-pub overflow_add-first : goal.overflow_add-first
-overflow_add-first g c = omega (arith, first_symbol_in c.args.list.now c.args.at c.requires)
-
-pub overflow_add-first-2 : goal.overflow_add-first-2
-overflow_add-first-2 g c = omega (arith, first_symbol_in c.args.list.now c.args.at c.requires)
-
-pub overflow_add-first-3 : goal.overflow_add-first-3
-overflow_add-first-3 g c = omega (arith, first_symbol_in c.args.list.now c.args.at c.requires)
 
 pub returns : goal.returns
 returns g c =

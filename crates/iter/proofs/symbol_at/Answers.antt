@@ -1,6 +1,6 @@
 -- The symbol at a place. What carries it: `symbol_from`, the symbol in two bytes.
-use mathlib.Core.Path.{◌≡◌, ap, ◌∙◌}
-use mathlib.Core.List.{List, map}
+use mathlib.Core.Path.{ap, ◌∙◌}
+use mathlib.Core.List.{List}
 use Prim.Native.Nat.{ℕ, ◌+◌}
 use borrow.Author.Rules.{rules}
 use lib.ListN.{get_or}

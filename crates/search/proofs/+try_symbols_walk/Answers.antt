@@ -38,66 +38,66 @@ try_symbols-loop-symbol-preserved t c =
 
 -- ---- the loop over the places
 
-pub walk-loop-place-init : goal.walk-loop-place-init
-walk-loop-place-init t c = (passed_none c.args.changes c.args.start c.args.places c.args.steps.now.used c.requires.2, refl)
+pub walk-places-init : goal.walk-places-init
+walk-places-init t c = (passed_none c.args.changes c.args.start c.args.places c.args.steps.now.used c.requires.2, refl)
 
 pub walk-returns-in_err-spend-clause-walked : goal.walk-returns-in_err-spend-clause-walked
 walk-returns-in_err-spend-clause-walked t c =
     let exit = err_from_is_err_and c.from_residual.result c.from_residual.ensures.1 in
-    let within = c.loop-place.steps.within in
+    let within = c.places.steps.within in
     let spent = c.in_err-spend.ensures.spent in
     rw (exit.1, exit.2, spent.0, spent.2)
-    (ends_spent c.requires.0 c.loop-place.invariant.0 (omega arith) (λ none. omega arith) (omega (arith, spent.1)))
+    (ends_spent c.requires.0 c.places.invariant.0 (omega arith) (λ none. omega arith) (omega (arith, spent.1)))
 
 pub walk-returns-then-residue-lt32-clause-walked : goal.walk-returns-then-residue-lt32-clause-walked
 walk-returns-then-residue-lt32-clause-walked t c =
     let stepped = c.step_zero-residue.ensures in
-    let within = c.loop-place.steps.within in
+    let within = c.places.steps.within in
     let spent = c.in_ok-spend.ensures.spent in
     rw spent.1
-    (ends_last c.requires.0 c.loop-place.invariant.0 (omega arith) (λ none. omega arith)
+    (ends_last c.requires.0 c.places.invariant.0 (omega arith) (λ none. omega arith)
     c.single.result (omega (arith, spent.0)) (rw stepped at c.if-residue-lt32.true) (rw stepped at c.single.ensures))
 
 pub walk-try_symbols-requires : goal.walk-try_symbols-requires
 walk-try_symbols-requires t c =
-    (omega arith, (omega arith, omega arith, c.if-residue-lt32.false, omega (arith, c.step_zero-residue.ensures, step_zero_lt c.loop-place.residue)))
+    (omega arith, (omega arith, omega arith, c.if-residue-lt32.false, omega (arith, c.step_zero-residue.ensures, step_zero_lt c.places.residue)))
 
 pub walk-returns-in_err-pattern-clause-walked : goal.walk-returns-in_err-pattern-clause-walked
 walk-returns-in_err-pattern-clause-walked t c =
     let exit = err_from_is_err_and c.from_residual-in_err-pattern.result c.from_residual-in_err-pattern.ensures.1 in
     let stepped = c.step_zero-residue.ensures in
-    let within = c.loop-place.steps.within in
-    let tried = rw (stepped, c.in_ok-spend.ensures.spent.1, c.spend.ensures.same_budget, c.loop-place.invariant.1) at c.in_err-pattern.ensures.tried in
+    let within = c.places.steps.within in
+    let tried = rw (stepped, c.in_ok-spend.ensures.spent.1, c.spend.ensures.same_budget, c.places.invariant.1) at c.in_err-pattern.ensures.tried in
     rw (exit.1, exit.2)
-    (ends_refused c.requires.0 c.loop-place.invariant.0 (omega arith) (λ none. omega arith) _ _ (rw stepped at c.if-residue-lt32.false) tried)
+    (ends_refused c.requires.0 c.places.invariant.0 (omega arith) (λ none. omega arith) _ _ (rw stepped at c.if-residue-lt32.false) tried)
 
 pub walk-returns-in-Some-clause-walked : goal.walk-returns-in-Some-clause-walked
 walk-returns-in-Some-clause-walked t c =
     let stepped = c.step_zero-residue.ensures in
-    let within = c.loop-place.steps.within in
-    let tried = rw (c.in-Some.is, stepped, c.in_ok-spend.ensures.spent.1, c.spend.ensures.same_budget, c.loop-place.invariant.1) at c.in_ok-pattern.ensures.tried in
-    ends_shown c.requires.0 c.loop-place.invariant.0 (omega arith) (λ none. omega arith) _ _ (rw stepped at c.if-residue-lt32.false) tried
+    let within = c.places.steps.within in
+    let tried = rw (c.in-Some.is, stepped, c.in_ok-spend.ensures.spent.1, c.spend.ensures.same_budget, c.places.invariant.1) at c.in_ok-pattern.ensures.tried in
+    ends_shown c.requires.0 c.places.invariant.0 (omega arith) (λ none. omega arith) _ _ (rw stepped at c.if-residue-lt32.false) tried
 
-pub walk-loop-place-preserved-then-changes-eq1 : goal.walk-loop-place-preserved-then-changes-eq1
-walk-loop-place-preserved-then-changes-eq1 t c =
+pub walk-places-preserved-then-changes-eq1 : goal.walk-places-preserved-then-changes-eq1
+walk-places-preserved-then-changes-eq1 t c =
     let stepped = c.step_zero-residue.ensures in
-    let steps = c.loop-place.steps in
+    let steps = c.places.steps in
     let spent = c.in_ok-spend.ensures.spent in
-    let place = c.loop-place.place - 1 in
+    let place = c.places.place - 1 in
     let last : c.args.changes - 1 ≡ 0 = omega arith in
-    let tried = subst (λ (w : ℕ). Tried w (step c.loop-place.residue 0) place (steps.used + 1) c.args.steps.now.budget (Ok None) (steps.used + 1)) (sym last)
-    (tried_none (step c.loop-place.residue 0) place (steps.used + 1) c.args.steps.now.budget
-    (rw stepped at c.if-residue-lt32.false) (step_zero_lt c.loop-place.residue) (omega (arith, spent.0))) in
-    (rw (stepped, spent.1) (passed_more c.requires.0 c.loop-place.invariant.0 (omega (arith, steps.within)) (λ none. omega arith) _ tried), cc)
+    let tried = subst (λ (w : ℕ). Tried w (step c.places.residue 0) place (steps.used + 1) c.args.steps.now.budget (Ok None) (steps.used + 1)) (sym last)
+    (tried_none (step c.places.residue 0) place (steps.used + 1) c.args.steps.now.budget
+    (rw stepped at c.if-residue-lt32.false) (step_zero_lt c.places.residue) (omega (arith, spent.0))) in
+    (rw (stepped, spent.1) (passed_more c.requires.0 c.places.invariant.0 (omega (arith, steps.within)) (λ none. omega arith) _ tried), cc)
 
-pub walk-loop-place-preserved : goal.walk-loop-place-preserved
-walk-loop-place-preserved t c =
+pub walk-places-preserved : goal.walk-places-preserved
+walk-places-preserved t c =
     let stepped = c.step_zero-residue.ensures in
-    let within = c.loop-place.steps.within in
-    let tried = rw (c.in_default.is, stepped, c.in_ok-spend.ensures.spent.1, c.spend.ensures.same_budget, c.loop-place.invariant.1) at c.in_ok-pattern.ensures.tried in
-    (rw stepped (passed_more c.requires.0 c.loop-place.invariant.0 (omega arith) (λ none. omega arith) _ tried), cc)
+    let within = c.places.steps.within in
+    let tried = rw (c.in_default.is, stepped, c.in_ok-spend.ensures.spent.1, c.spend.ensures.same_budget, c.places.invariant.1) at c.in_ok-pattern.ensures.tried in
+    (rw stepped (passed_more c.requires.0 c.places.invariant.0 (omega arith) (λ none. omega arith) _ tried), cc)
 
 pub walk-returns-clause-walked : goal.walk-returns-clause-walked
 walk-returns-clause-walked t c =
-    let within = c.loop-place.steps.within in
-    ends_none c.requires.0 c.loop-place.invariant.0 (omega arith) (omega (arith, c.loop-place-test.false))
+    let within = c.places.steps.within in
+    ends_none c.requires.0 c.places.invariant.0 (omega arith) (omega (arith, c.places-test.false))

@@ -15,6 +15,6 @@ abbrev pub invariant-try_symbols-loop-symbol : goal.invariant-try_symbols-loop-s
 invariant-try_symbols-loop-symbol l =
     Tested l.changes l.residue l.place l.fn.steps.used l.symbol l.steps.used × (l.steps.budget ≡ l.fn.steps.budget)
 
-abbrev pub invariant-walk-loop-place : goal.invariant-walk-loop-place
-invariant-walk-loop-place l =
+abbrev pub invariant-walk-places : goal.invariant-walk-places
+invariant-walk-places l =
     Passed l.changes l.start l.places l.fn.steps.used l.residue l.place l.steps.used × (l.steps.budget ≡ l.fn.steps.budget)

@@ -1,21 +1,26 @@
--- `FieldVec::equal` meets its promise, test by test.
-use mathlib.Core.Path.{sym, ◌∙◌}
-use borrow.Author.Tests.{lt-ltb, le-ltb}
-use Rattle.fieldvec.specs.Lists.{compared}
+-- `FieldVec::equal` meets its promise, exit by exit.
+use mathlib.Core.Path.{sym, ap, ap₂, ◌∙◌}
+use native.Mathlib.Omega.{arith}
+use Rattle.std.specs.Prelude.{Ok}
+use Rattle.std.proofs.lemmas.Result.{err_from_is_err_and}
+use Rattle.fieldvec.specs.Lists.{alike}
+use Rattle.fieldvec.proofs.Laws.{shown_ok, exit, compared_outside, compared_whole, compared_other}
 use Rattle.fieldvec.proofs.FieldVec.equal.Goals as goal
 
-pub returns-then-n-gt-CAPACITY : goal.returns-then-n-gt-CAPACITY
-unfolding compared
-returns-then-n-gt-CAPACITY c = rw (lt-ltb _ _ c.if-n-gt-CAPACITY.true)
+pub returns-in_err-elements : goal.returns-in_err-elements
+returns-in_err-elements c =
+    let out = exit c.args.self.now c.from_residual.result (err_from_is_err_and c.from_residual.result c.from_residual.ensures.1) c.in_err-elements.ensures in
+    out.1 ∙ sym (compared_outside c.args.self.now out.0 c.args.other.now)
 
-pub returns-then-m-gt-CAPACITY : goal.returns-then-m-gt-CAPACITY
-unfolding compared
-returns-then-m-gt-CAPACITY c = rw (le-ltb _ _ c.if-n-gt-CAPACITY.false, lt-ltb _ _ c.if-m-gt-CAPACITY.true)
+pub returns-in_err-elements-2 : goal.returns-in_err-elements-2
+returns-in_err-elements-2 c =
+    let shown = shown_ok c.args.self.now c.in_ok-elements.ensures in
+    let r = c.from_residual-in_err-elements-2 in
+    let out = exit c.args.other.now r.result (err_from_is_err_and r.result r.ensures.1) c.in_err-elements-2.ensures in
+    out.1 ∙ sym (compared_other c.args.self.now (omega arith) shown.0 c.args.other.now out.0)
 
-pub returns-then-matches : goal.returns-then-matches
-unfolding compared
-returns-then-matches c = rw (le-ltb _ _ c.if-n-gt-CAPACITY.false, le-ltb _ _ c.if-m-gt-CAPACITY.false, sym c.matches.ensures ∙ c.if-matches.true)
-
-pub returns-else-matches : goal.returns-else-matches
-unfolding compared
-returns-else-matches c = rw (le-ltb _ _ c.if-n-gt-CAPACITY.false, le-ltb _ _ c.if-m-gt-CAPACITY.false, sym c.matches.ensures ∙ c.if-matches.false)
+pub returns : goal.returns
+returns c =
+    let shown = shown_ok c.args.self.now c.in_ok-elements.ensures in
+    let other = shown_ok c.args.other.now c.in_ok-elements-2.ensures in
+    ap Ok (c.matches.ensures ∙ ap₂ alike shown.1 other.1) ∙ sym (compared_whole c.args.self.now (omega arith) shown.0 c.args.other.now other.0)

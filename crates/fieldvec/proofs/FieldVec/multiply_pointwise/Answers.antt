@@ -1,22 +1,53 @@
--- `FieldVec::multiply_pointwise` meets its promise, test by test.
-use Prim.Native.Nat.{ℕ}
-use Rattle.fieldvec.specs.Lists.{listed, pointwise, accepted, multiplied_pointwise}
-use mathlib.Core.Path.{ap, ◌∙◌}
-use borrow.Author.Tests.{eq-eqb, ne_eqb, lt-ltb, le-ltb}
-use lib.ListN.{take}
+-- `FieldVec::multiply_pointwise` meets its promise, exit by exit.
+use mathlib.Core.Path.{◌≡◌, refl, sym, ap₂, ◌∙◌}
+use Prim.Native.Nat.{◌≤◌}
+use native.Mathlib.Omega.{arith}
+use borrow.Author.Rules.{rules}
+use lib.ListN.{length, get_or}
+use Rattle.std.proofs.lemmas.Result.{err_from_is_err_and}
+use Rattle.gf32_ext.specs.Field.{product}
+use Rattle.fieldvec.specs.Lists.{listed, pointwise}
+use Rattle.fieldvec.proofs.Build.{listed_is, pointwise_length, pointwise_at}
+use Rattle.fieldvec.proofs.Laws.{shown_ok, exit, refuses, changes, elements_length, multiplied_refused, multiplied_whole}
 use Rattle.fieldvec.proofs.FieldVec.multiply_pointwise.Goals as goal
 
-pub returns-then-n-other : goal.returns-then-n-other
-unfolding multiplied_pointwise
-returns-then-n-other c = rw (ne_eqb _ _ c.if-n-other.true) c.refused_place.ensures
+pub returns-in_err-factors : goal.returns-in_err-factors
+returns-in_err-factors c =
+    let r = c.from_residual in
+    let out = exit c.args.other.now r.result (err_from_is_err_and r.result r.ensures.1) c.in_err-factors.ensures in
+    refuses c.args.self.now out.1 (multiplied_refused c.args.self.now c.args.other.now (λ h e. omega (arith, out.0)))
 
-pub returns-then-n-gt-CAPACITY : goal.returns-then-n-gt-CAPACITY
-unfolding multiplied_pointwise
-returns-then-n-gt-CAPACITY c = rw (eq-eqb _ _ c.if-n-other.false, lt-ltb _ _ c.if-n-gt-CAPACITY.true) c.refused_place-then-n-gt-CAPACITY.ensures
+pub returns-in_err-elements : goal.returns-in_err-elements
+returns-in_err-elements c =
+    let r = c.from_residual-in_err-elements in
+    let out = exit c.args.self.now r.result (err_from_is_err_and r.result r.ensures.1) c.in_err-elements.ensures in
+    refuses c.args.self.now out.1 (multiplied_refused c.args.self.now c.args.other.now (λ h e. omega (arith, out.0)))
+
+pub returns-then-elements-factors : goal.returns-then-elements-factors
+returns-then-elements-factors c =
+    let shown = shown_ok c.args.self.now c.in_ok-elements.ensures in
+    let other = shown_ok c.args.other.now c.in_ok-factors.ensures in
+    let unlike = rw (shown.1, other.1) at c.if-elements-factors.true in
+    refuses c.args.self.now refl
+    (multiplied_refused c.args.self.now c.args.other.now
+    (λ h e. unlike (elements_length c.args.self.now (omega arith) shown.0 ∙ e ∙ sym (elements_length c.args.other.now (omega arith) other.0))))
+
+pub listed_by-requires-clause-room : goal.listed_by-requires-clause-room
+listed_by-requires-clause-room c =
+    let shown = shown_ok c.args.self.now c.in_ok-elements.ensures in
+    rw shown.1 (omega (arith, elements_length c.args.self.now (omega arith) shown.0))
 
 pub returns : goal.returns
-unfolding multiplied_pointwise
 returns c =
-    rw (eq-eqb _ _ c.if-n-other.false, le-ltb _ _ c.if-n-gt-CAPACITY.false)
-    (ap accepted (c.products-list.ensures
-    ∙ ap (λ (n : ℕ). listed (pointwise (take c.args.self.len c.args.self.items) (take n c.args.other.items))) c.if-n-other.false))
+    let shown = shown_ok c.args.self.now c.in_ok-elements.ensures in
+    let other = shown_ok c.args.other.now c.in_ok-factors.ensures in
+    let s = c.in_ok-elements.elements.now in
+    let t = c.in_ok-factors.factors.now in
+    let room : length s ≤ 7 = rw shown.1 (omega (arith, elements_length c.args.self.now (omega arith) shown.0)) in
+    let same = rw (shown.1, other.1) at c.if-elements-factors.false in
+    changes c.args.self.now
+    (multiplied_whole c.args.self.now c.args.other.now c.listed_by.result
+    (sym (elements_length c.args.self.now (omega arith) shown.0) ∙ same ∙ elements_length c.args.other.now (omega arith) other.0) shown.0
+    (listed_is _ c.listed_by.result (length s) (pointwise s t) c.listed_by.ensures room (pointwise_length s t c.if-elements-factors.false)
+    (λ k v h e. let stored : v ≡ product (get_or s k 0) (get_or t k 0) = search rules in stored ∙ sym (pointwise_at s t c.if-elements-factors.false k h))
+    ∙ ap₂ (λ s t. listed (pointwise s t)) shown.1 other.1))

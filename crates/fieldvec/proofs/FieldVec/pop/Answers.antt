@@ -1,16 +1,29 @@
--- `FieldVec::pop` meets its promise, test by test.
-use borrow.Author.Tests.{eq-eqb, ne_eqb, lt-ltb, le-ltb}
-use Rattle.fieldvec.specs.Lists.{popped_back}
+-- `FieldVec::pop` meets its promise, exit by exit.
+use mathlib.Core.Path.{refl, sym, ◌∙◌}
+use native.Mathlib.Omega.{arith}
+use Rattle.std.proofs.lemmas.Result.{err_from_is_err_and}
+use Rattle.fieldvec.proofs.Laws.{shown_ok, exit, refuses, changes, elements_length, popped_back_outside, popped_back_none, popped_back_last}
 use Rattle.fieldvec.proofs.FieldVec.pop.Goals as goal
 
-pub returns-then-n-eq0 : goal.returns-then-n-eq0
-unfolding popped_back
-returns-then-n-eq0 c = rw (eq-eqb _ _ c.if-n-eq0.true) c.nothing_popped.ensures
+pub returns-in_err-elements : goal.returns-in_err-elements
+returns-in_err-elements c =
+    let out = exit c.args.self.now c.from_residual.result (err_from_is_err_and c.from_residual.result c.from_residual.ensures.1) c.in_err-elements.ensures in
+    refuses c.args.self.now out.1 (popped_back_outside c.args.self.now out.0)
 
-pub returns-then-n-gt-CAPACITY : goal.returns-then-n-gt-CAPACITY
-unfolding popped_back
-returns-then-n-gt-CAPACITY c = rw (ne_eqb _ _ c.if-n-eq0.false, lt-ltb _ _ c.if-n-gt-CAPACITY.true) c.nothing_popped-then-n-gt-CAPACITY.ensures
+pub returns-in_default : goal.returns-in_default
+returns-in_default c =
+    let shown = shown_ok c.args.self.now c.in_ok-elements.ensures in
+    refuses c.args.self.now refl (popped_back_none c.args.self.now (omega arith) shown.0 (rw shown.1 at c.in_default.ensures.cases))
+
+pub bounds-self-at : goal.bounds-self-at
+bounds-self-at c =
+    let shown = shown_ok c.args.self.now c.in_ok-elements.ensures in
+    let places = rw shown.1 at c.in-Some.ensures.cases.1 in
+    omega (arith, elements_length c.args.self.now (omega arith) shown.0)
 
 pub returns : goal.returns
-unfolding popped_back
-returns c = rw (ne_eqb _ _ c.if-n-eq0.false, le-ltb _ _ c.if-n-gt-CAPACITY.false)
+returns c =
+    let shown = shown_ok c.args.self.now c.in_ok-elements.ensures in
+    changes c.args.self.now
+    (popped_back_last c.args.self.now (omega arith) shown.0 c.in-Some.rest.now c.in-Some.last.now c.widened-value.result
+    (sym shown.1 ∙ c.in-Some.ensures.cases.0) c.widened-value.ensures)

@@ -1,29 +1,35 @@
--- `FieldVec::pop_front` meets its promise, test by test.
-use Prim.Native.Nat.{ℕ, ◌%◌}
-use lib.ListN.{get_or}
-use Rattle.fieldvec.specs.declared.FieldVec.{FieldVec}
-use Rattle.fieldvec.specs.declared.Popped.{Popped}
-use Rattle.fieldvec.specs.Lists.{listed, popped_front}
-use Rattle.fieldvec.proofs.Laws.{part_after}
-use mathlib.Core.Path.{ap, ◌∙◌}
+-- `FieldVec::pop_front` meets its promise, exit by exit.
+use mathlib.Core.Path.{refl, sym, ◌∙◌}
 use native.Mathlib.Omega.{arith}
-use borrow.Author.Tests.{eq-eqb, ne_eqb, lt-ltb, le-ltb}
+use lib.ListN.{length}
+use borrow.Author.Rules.{rules}
+use Rattle.std.proofs.lemmas.Result.{err_from_is_err_and}
+use Rattle.fieldvec.proofs.Build.{listed_is}
+use Rattle.fieldvec.proofs.Laws.{shown_ok, exit, refuses, changes, elements_length, popped_front_outside, popped_front_none, popped_front_first}
 use Rattle.fieldvec.proofs.FieldVec.pop_front.Goals as goal
 
-abbrev popped_with : ℕ → FieldVec → Popped
-popped_with v t = record { number = 0; value = v; list = t }
+pub returns-in_err-elements : goal.returns-in_err-elements
+returns-in_err-elements c =
+    let out = exit c.args.self.now c.from_residual.result (err_from_is_err_and c.from_residual.result c.from_residual.ensures.1) c.in_err-elements.ensures in
+    refuses c.args.self.now out.1 (popped_front_outside c.args.self.now out.0)
 
-pub returns-then-n-eq0 : goal.returns-then-n-eq0
-unfolding popped_front
-returns-then-n-eq0 c = rw (eq-eqb _ _ c.if-n-eq0.true) c.nothing_popped.ensures
+pub returns-in_default : goal.returns-in_default
+returns-in_default c =
+    let shown = shown_ok c.args.self.now c.in_ok-elements.ensures in
+    refuses c.args.self.now refl (popped_front_none c.args.self.now (omega arith) shown.0 (rw shown.1 at c.in_default.ensures.cases))
 
-pub returns-then-n-gt-CAPACITY : goal.returns-then-n-gt-CAPACITY
-unfolding popped_front
-returns-then-n-gt-CAPACITY c = rw (ne_eqb _ _ c.if-n-eq0.false, lt-ltb _ _ c.if-n-gt-CAPACITY.true) c.nothing_popped-then-n-gt-CAPACITY.ensures
+pub listed_by-requires-clause-room : goal.listed_by-requires-clause-room
+listed_by-requires-clause-room c =
+    let shown = shown_ok c.args.self.now c.in_ok-elements.ensures in
+    let places = rw shown.1 at c.in-Some.ensures.cases.1 in
+    omega (arith, elements_length c.args.self.now (omega arith) shown.0)
 
 pub returns : goal.returns
-unfolding popped_front
 returns c =
-    rw (ne_eqb _ _ c.if-n-eq0.false, le-ltb _ _ c.if-n-gt-CAPACITY.false)
-    (ap (popped_with (get_or c.args.self.items 0 0 % 1024))
-    (c.copied-rest.ensures ∙ ap listed (part_after c.args.self.len c.args.self.items (omega arith))))
+    let shown = shown_ok c.args.self.now c.in_ok-elements.ensures in
+    let places = rw shown.1 at c.in-Some.ensures.cases.1 in
+    changes c.args.self.now
+    (popped_front_first c.args.self.now (omega arith) shown.0 c.in-Some.rest.now c.in-Some.first.now c.widened-value.result c.listed_by.result
+    (sym shown.1 ∙ c.in-Some.ensures.cases.0) c.widened-value.ensures
+    (listed_is _ c.listed_by.result (length c.in-Some.rest.now) c.in-Some.rest.now c.listed_by.ensures
+    (omega (arith, elements_length c.args.self.now (omega arith) shown.0)) refl (λ k v h e. search rules)))

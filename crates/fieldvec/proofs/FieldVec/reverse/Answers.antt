@@ -1,13 +1,34 @@
--- `FieldVec::reverse` meets its promise, test by test.
-use mathlib.Core.Path.{ap}
-use borrow.Author.Tests.{lt-ltb, le-ltb}
-use Rattle.fieldvec.specs.Lists.{accepted, reversed}
+-- `FieldVec::reverse` meets its promise, exit by exit.
+use mathlib.Core.Path.{◌≡◌, sym, ap, ◌∙◌}
+use mathlib.Core.List.{reverse}
+use Prim.Native.Nat.{◌-◌, ◌≤◌}
+use native.Mathlib.Omega.{arith}
+use borrow.Author.Rules.{rules}
+use lib.ListN.{length, get_or, length-reverse}
+use Rattle.std.proofs.lemmas.Result.{err_from_is_err_and}
+use Rattle.std.proofs.lemmas.List.{get_or-reverse}
+use Rattle.fieldvec.specs.Lists.{listed}
+use Rattle.fieldvec.proofs.Build.{listed_is}
+use Rattle.fieldvec.proofs.Laws.{shown_ok, exit, refuses, changes, elements_length, reversed_outside, reversed_whole}
 use Rattle.fieldvec.proofs.FieldVec.reverse.Goals as goal
 
-pub returns-then-n-gt-CAPACITY : goal.returns-then-n-gt-CAPACITY
-unfolding reversed
-returns-then-n-gt-CAPACITY c = rw (lt-ltb _ _ c.if-n-gt-CAPACITY.true) c.refused_place.ensures
+pub returns-in_err-elements : goal.returns-in_err-elements
+returns-in_err-elements c =
+    let out = exit c.args.self.now c.from_residual.result (err_from_is_err_and c.from_residual.result c.from_residual.ensures.1) c.in_err-elements.ensures in
+    refuses c.args.self.now out.1 (reversed_outside c.args.self.now out.0)
+
+pub listed_by-requires-clause-room : goal.listed_by-requires-clause-room
+listed_by-requires-clause-room c =
+    let shown = shown_ok c.args.self.now c.in_ok-elements.ensures in
+    rw shown.1 (omega (arith, elements_length c.args.self.now (omega arith) shown.0))
 
 pub returns : goal.returns
-unfolding reversed
-returns c = rw (le-ltb _ _ c.if-n-gt-CAPACITY.false) (ap accepted c.backwards-list.ensures)
+returns c =
+    let shown = shown_ok c.args.self.now c.in_ok-elements.ensures in
+    let l = c.in_ok-elements.elements.now in
+    let room : length l ≤ 7 = rw shown.1 (omega (arith, elements_length c.args.self.now (omega arith) shown.0)) in
+    changes c.args.self.now
+    (reversed_whole c.args.self.now (omega arith) shown.0 c.listed_by.result
+    (listed_is _ c.listed_by.result (length l) (reverse l) c.listed_by.ensures room (length-reverse l)
+    (λ k v h e. let stored : v ≡ get_or l (length l - 1 - k) 0 = search rules in stored ∙ sym (get_or-reverse l k 0 h))
+    ∙ ap (λ l. listed (reverse l)) shown.1))

@@ -3,7 +3,6 @@ use mathlib.Core.Path.{ap}
 use Prim.Native.Nat.{ℕ}
 use Rattle.paper.specs.Bits.{to_symbols}
 use Rattle.iter.specs.Steps.{symbol_step, after_symbol}
-use Rattle.iter.specs.declared.BytesToSymbols.{BytesToSymbols}
 use Rattle.iter.proofs.Answers.{at_end, at_value}
 use Rattle.iter.proofs.BytesToSymbols.next.Goals as goal
 

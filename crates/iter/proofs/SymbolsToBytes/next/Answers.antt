@@ -6,7 +6,6 @@ use lib.ListN.{get_or}
 use Rattle.std.proofs.lemmas.List.{map-id}
 use Rattle.paper.specs.Bits.{to_bytes}
 use Rattle.iter.specs.Steps.{byte_step, after_byte}
-use Rattle.iter.specs.declared.SymbolsToBytes.{SymbolsToBytes}
 use Rattle.iter.proofs.Answers.{at_end, at_value}
 use Rattle.iter.proofs.SymbolsToBytes.next.Goals as goal
 
