@@ -2,15 +2,15 @@
 use mathlib.Core.Path.{◌≡◌, refl, sym, ap, ◌∙◌}
 use mathlib.Core.Bool.{Bool, true, false, ◌&&◌}
 use mathlib.Core.List.{List, [], ◌∷◌, ◌++◌, reverse}
-use Prim.Native.Nat.{ℕ, zero, suc, ◌+◌, ◌-◌, ◌%◌, ◌<◌, ◌≤◌}
+use Prim.Native.Nat.{ℕ, suc, ◌+◌, ◌-◌, ◌%◌, ◌<◌, ◌≤◌}
 use native.Mathlib.Nat.{le_refl}
 use native.Mathlib.Numerals.{add-one}
 use native.Mathlib.Omega.{arith}
 use borrow.Author.Tests.{lt-leb, le-leb, lt-ltb, eq-eqb, ne_eqb, le-ltb, ltb-true, ltb-false}
 use lib.Dec.{eqb, ltb, eqb→eq}
 use lib.ListN.{length, take, drop, get_or, set, length-append}
-use Rattle.std.proofs.lemmas.List.{get_or-take}
-use lib.Seq.{length-take-le, take-nil, take-set-le, take-suc-set, take-append_seam, get_or-append_seam}
+use Rattle.std.proofs.lemmas.List.{get_or-take, length-take}
+use lib.Seq.{length-take-le, take-set-le, take-suc-set, take-append_seam, get_or-append_seam}
 use Rattle.std.specs.Prelude.{⊤, Result, Ok, Err}
 use Rattle.std.specs.List.{list_all, zip}
 use Rattle.laws.specs.Pick.{pick}
@@ -56,6 +56,13 @@ module _ (t : FieldVec) where
     pub refuses : {r : Result A Refusal} {refusal : Refusal} → r ≡ Err refusal → answer ≡ Err refusal → Changes t answer r t
     refuses e f = record { result = e ∙ sym (ap given f); list = sym (ap (left t) f) }
 
+    -- an answer that is accepted is not refused, and leaves what it gives
+    pub accepts : {made : A × FieldVec} {refusal : Refusal} → answer ≡ Ok made → Err refusal ≡ given answer → ⊥
+    accepts f e = cc (e, ap given f)
+
+    pub left_made : {made : A × FieldVec} {u : FieldVec} → answer ≡ Ok made → u ≡ left t answer → u ≡ made.1
+    left_made f e = e ∙ ap (left t) f
+
     pub changes : {value : A} {u : FieldVec} → answer ≡ Ok (value, u) → Changes t answer (Ok value) u
     changes f = record { result = sym (ap given f); list = sym (ap (left t) f) }
 
@@ -97,6 +104,9 @@ module _ (t : FieldVec) (outside : 7 < t.len) where
   pub compared_outside : (u : FieldVec) → compared t u ≡ Err ListPlace
   unfolding compared
   compared_outside u = rw (lt-ltb 7 t.len outside)
+
+pub elements_short : (t : FieldVec) → t.len ≤ 7 → length (elements t) ≤ 7
+elements_short t whole = omega (arith, length-take t.len t.items)
 
 module _ (t : FieldVec) (seven : length t.items ≡ 7) (whole : t.len ≤ 7) where
   pub elements_length : length (elements t) ≡ t.len
@@ -189,21 +199,6 @@ pub elements_popped : (t : FieldVec) → 0 < t.len → t.len ≤ 7 → elements 
 unfolding popped_back
 elements_popped t h k =
     rw (ne_eqb t.len 0 (λ e. absurd (omega arith)), le-ltb 7 t.len k) (take-set-le (t.len - 1) t.items (t.len - 1) 0 (le_refl (t.len - 1)))
-
--- ---- the first n of seven
-
-module _ (n : ℕ) (l : List ℕ) (seven : length l ≡ 7) (h : n ≤ 7) where
-  pub prefix_length : n ≡ length (take n l)
-  prefix_length = sym (length-take-le n l (omega arith))
-
-  pub prefix_short : length (take n l) ≤ 7
-  prefix_short = omega (arith, prefix_length)
-
--- a list without its first element, as the slice of it that the code takes
-pub part_after : (n : ℕ) (l : List ℕ) → 0 < n → take (n - 1) (drop 1 l) ≡ drop 1 (take n l)
-part_after zero l h = absurd (omega arith)
-part_after (suc n) [] h = take-nil (suc n - 1)
-part_after (suc n) (x ∷ l) h = let e : suc n - 1 ≡ n = omega arith in ap (λ (k : ℕ). take k l) e
 
 -- ---- where nothing is refused
 

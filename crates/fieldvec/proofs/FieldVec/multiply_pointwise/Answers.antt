@@ -8,7 +8,7 @@ use Rattle.std.proofs.lemmas.Result.{err_from_is_err_and}
 use Rattle.gf32_ext.specs.Field.{product}
 use Rattle.fieldvec.specs.Lists.{listed, pointwise}
 use Rattle.fieldvec.proofs.Build.{listed_is, pointwise_length, pointwise_at}
-use Rattle.fieldvec.proofs.Laws.{shown_ok, exit, refuses, changes, elements_length, multiplied_refused, multiplied_whole}
+use Rattle.fieldvec.proofs.Laws.{shown_ok, exit, refuses, changes, elements_length, elements_short, multiplied_refused, multiplied_whole}
 use Rattle.fieldvec.proofs.FieldVec.multiply_pointwise.Goals as goal
 
 pub returns-in_err-factors : goal.returns-in_err-factors
@@ -35,7 +35,7 @@ returns-then-elements-factors c =
 pub listed_by-requires-clause-room : goal.listed_by-requires-clause-room
 listed_by-requires-clause-room c =
     let shown = shown_ok c.args.self.now c.in_ok-elements.ensures in
-    rw shown.1 (omega (arith, elements_length c.args.self.now (omega arith) shown.0))
+    rw shown.1 (elements_short c.args.self.now shown.0)
 
 pub returns : goal.returns
 returns c =
@@ -43,7 +43,7 @@ returns c =
     let other = shown_ok c.args.other.now c.in_ok-factors.ensures in
     let s = c.in_ok-elements.elements.now in
     let t = c.in_ok-factors.factors.now in
-    let room : length s ≤ 7 = rw shown.1 (omega (arith, elements_length c.args.self.now (omega arith) shown.0)) in
+    let room : length s ≤ 7 = rw shown.1 (elements_short c.args.self.now shown.0) in
     let same = rw (shown.1, other.1) at c.if-elements-factors.false in
     changes c.args.self.now
     (multiplied_whole c.args.self.now c.args.other.now c.listed_by.result

@@ -2,7 +2,7 @@
 use mathlib.Core.Path.{refl, sym, ◌∙◌}
 use native.Mathlib.Omega.{arith}
 use Rattle.std.proofs.lemmas.Result.{err_from_is_err_and}
-use Rattle.fieldvec.proofs.Laws.{shown_ok, exit, refuses, changes, elements_length, popped_back_outside, popped_back_none, popped_back_last}
+use Rattle.fieldvec.proofs.Laws.{shown_ok, exit, refuses, changes, elements_short, popped_back_outside, popped_back_none, popped_back_last}
 use Rattle.fieldvec.proofs.FieldVec.pop.Goals as goal
 
 pub returns-in_err-elements : goal.returns-in_err-elements
@@ -19,7 +19,7 @@ pub bounds-self-at : goal.bounds-self-at
 bounds-self-at c =
     let shown = shown_ok c.args.self.now c.in_ok-elements.ensures in
     let places = rw shown.1 at c.in-Some.ensures.cases.1 in
-    omega (arith, elements_length c.args.self.now (omega arith) shown.0)
+    omega (arith, elements_short c.args.self.now shown.0)
 
 pub returns : goal.returns
 returns c =
