@@ -16,7 +16,8 @@ pub(crate) struct Tail {
     pub(crate) classes: u8,
 }
 
-// From the end, in one pass.
+// From the end, in one pass. In a caller's body the loop would carry a counter for each number that is computed from the place.
+#[inline(never)]
 pub(crate) fn scan_data(table: &Classes, s: &[u8]) -> Tail
     ensures { DataScanned s.now result }
 {
