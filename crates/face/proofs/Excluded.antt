@@ -102,7 +102,8 @@ write_symbols_not_refused k after n p = let e : suc k ≡ 0 = p.number ∙ ap nu
 pub write_symbols_writes : (r n : ℕ) → SymbolsWritten 1 (bytes "a") [] (replicate 8 0) r (replicate 8 0) n → ⊥
 write_symbols_writes r n p =
     let content : replicate 8 0 ≡ bytes "a12uel5l" =
-    p.buffer ∙ ap (λ (v : Result ℕ Refusal). buffer_after v (coded_string 1 (bytes "a") []) (replicate 8 0)) string_accepted ∙ ap (λ (l : List ℕ). l ++ []) string_written in
+    p.buffer ∙ ap (λ (v : Result ℕ Refusal). buffer_after v (coded_string 1 (bytes "a") []) (replicate 8 0)) string_accepted
+    ∙ ap (λ (l : List ℕ). l ++ []) string_written in
     let e : ◌≡◌ {A = ℕ} 0 97 = ap (λ (l : List ℕ). get_or l 0 0) content in
     omega arith
 

@@ -90,7 +90,8 @@ pub record AddressWritten (prefix : List ℕ) (version : ℕ) (program before : 
   pub buffer : after ≡ buffer_after (write_address_verdict prefix version program (length before)) (written_address prefix version program) before
 
 pub address_written_once : (prefix : List ℕ) (version : ℕ) (program before : List ℕ) (r r' : ℕ) (after after' : List ℕ) (n n' : ℕ)
-    → AddressWritten prefix version program before r after n → AddressWritten prefix version program before r' after' n' → (r ≡ r') × (after ≡ after') × (n ≡ n')
+    → AddressWritten prefix version program before r after n → AddressWritten prefix version program before r' after' n'
+    → (r ≡ r') × (after ≡ after') × (n ≡ n')
 address_written_once prefix version program before r r' after after' n n' p q =
     (same p.number q.number, same p.buffer q.buffer, same p.written_given q.written_given)
 

@@ -1,4 +1,5 @@
-// What the functions below answer, asked of the code of a checksum: an unknown code is refused first.
+// What the crates below answer, asked of the code of a checksum: an unknown code is refused first. Each function is there for its `?`, which a function
+// that gives C a number has no place for.
 #![tactic(auto, using(crate::proofs::Codes::known_code, crate::proofs::Codes::other_code), unfolding(answers::specs::Writing::write_bytes_verdict))]
 
 ghost use Rattle.std.specs.Prelude.{◌≡◌};

@@ -1,6 +1,7 @@
 // Pennywax for callers that know C: numbers and byte slices alone. A slice is two arguments, a pointer and a length. A checksum is a
 // number here, 1 for Bech32 and 2 for Bech32m; any other is refused with 28 before anything else is looked at. Each function gives
-// document 01's number, 0 for accepted; a refusal sets the other results to 0. C calls them through the static library face_c.
+// document 01's number, 0 for accepted; a refusal sets the other results to 0. C calls them through the static library face_c, by a name for each:
+// that some differ in little is the C interface.
 //
 // What is proved of a function with `apart` in its name is proved for results and buffers that lie apart from all else that is given, as the
 // language has it. Callers do not know that: c/pennywax.c, which they call, asks pennywax_ranges_overlap first.
@@ -119,7 +120,8 @@ fn reaches_past_top(start: usize, count: usize) -> bool
     count != 0 && usize::MAX - start < count - 1
 }
 
-// ---- an answer as numbers: 0 for each result where it is a refusal
+// ---- an answer as numbers: 0 for each result where it is a refusal. One function over Parts and Address would take a closure for each field, and be
+// no plainer than two.
 
 fn tell(answer: Result<usize, Refusal>, count: &mut usize) -> u8
     ensures number { result ≡ number_in answer }

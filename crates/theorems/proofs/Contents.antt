@@ -57,7 +57,8 @@ read_held constant s m n e =
 
 -- ---- the parts that are handed back
 
-pub no_part : (constant : ℕ) (s : List ℕ) → ((prefix part : List ℕ) → Holds constant s prefix part → ⊥) → (x : List ℕ) → part_of (read_verdict constant s) x ≡ []
+pub no_part : (constant : ℕ) (s : List ℕ) → ((prefix part : List ℕ) → Holds constant s prefix part → ⊥) → (x : List ℕ)
+    → part_of (read_verdict constant s) x ≡ []
 no_part constant s none x = by_reading (read_verdict constant s) refl
   where
     by_reading : (r : Result Parts Refusal) → read_verdict constant s ≡ r → part_of r x ≡ []

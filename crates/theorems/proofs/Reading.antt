@@ -60,7 +60,8 @@ writes_the_program s before r after kept v p valid e =
     ∙ ap (λ (l : List ℕ). l ++ drop (length p) before) (valid_program s v p valid)
 
 -- on a refusal it holds what it held
-pub program_refused : (s before : List ℕ) (r : Result Address Refusal) (after : List ℕ) → AddressRead s before r after → (k : Refusal) → r ≡ Err k → after ≡ before
+pub program_refused : (s before : List ℕ) (r : Result Address Refusal) (after : List ℕ) → AddressRead s before r after
+    → (k : Refusal) → r ≡ Err k → after ≡ before
 program_refused s before r after kept k e = kept.buffer ∙ ap (λ (x : Result Address Refusal). program_after x (program_of s) before) (sym kept.answer ∙ e)
 
 -- ---- the parts that are handed back

@@ -53,7 +53,8 @@ module _ (kind : Checksum) (prefix symbols before : List ℕ) (r : Result ℕ Re
       let accepted : write_verdict (constant_for kind) prefix symbols (length before) ≡ Ok n = sym kept.answer ∙ e in
       let fit = (symbols_accepted (constant_for kind) prefix symbols (length before) n).0 accepted in
       let string : take n after ≡ written_string (constant_for kind) prefix symbols =
-      written_part (write_verdict (constant_for kind) prefix symbols (length before)) (written_string (constant_for kind) prefix symbols) before r after n kept e (written_length (constant_for kind) prefix symbols ∙ fit.count) in
+      written_part (write_verdict (constant_for kind) prefix symbols (length before)) (written_string (constant_for kind) prefix symbols) before r after n
+      kept e (written_length (constant_for kind) prefix symbols ∙ fit.count) in
       record {
         accepted = rw string (accepted_is_read (constant_for kind) prefix symbols (length before) n (constant_lt kind) accepted);
         same_prefix = rw string (written_prefix (constant_for kind) prefix symbols fit.legal fit.small (constant_lt kind));
@@ -152,7 +153,8 @@ rewriting_bytes kind s m n e = (only, again)
         → (padding_long (payload_symbols s) ≡ false) × (padding_not_zero (payload_symbols s) ≡ false)
     only same =
         (symbols_round (payload_symbols s) fit.small).0
-        (sym (written_symbols (constant_for kind) (prefix_part s) (to_symbols (to_bytes (payload_symbols s))) fit.legal (symbols_below (to_bytes (payload_symbols s))) (constant_lt kind))
+        (sym (written_symbols (constant_for kind) (prefix_part s) (to_symbols (to_bytes (payload_symbols s))) fit.legal
+        (symbols_below (to_bytes (payload_symbols s))) (constant_lt kind))
         ∙ ap payload_symbols (same ∙ sym (rewriting_a_string kind s m n e))
         ∙ written_symbols (constant_for kind) (prefix_part s) (payload_symbols s) fit.legal fit.small (constant_lt kind))
 
@@ -163,7 +165,8 @@ unfolding written_string checksum residue
 written_by_lower constant p q symbols e =
     ap (λ (l : List ℕ). l ++ 49 ∷ map letter (symbols ++ six_symbols (polymod 1 (expand l ++ (symbols ++ replicate 6 0)) ⊕ constant))) e
 
-pub one_string : (kind : Checksum) (s t : List ℕ) (m n m' n' : ℕ) → read_verdict (constant_for kind) s ≡ accepts_parts m n → read_verdict (constant_for kind) t ≡ accepts_parts m' n'
+pub one_string : (kind : Checksum) (s t : List ℕ) (m n m' n' : ℕ) → read_verdict (constant_for kind) s ≡ accepts_parts m n
+    → read_verdict (constant_for kind) t ≡ accepts_parts m' n'
     → map lower (prefix_part s) ≡ map lower (prefix_part t) → payload_symbols s ≡ payload_symbols t → map lower s ≡ map lower t
 one_string kind s t m n m' n' es et prefix symbols =
     sym (rewriting_a_string kind s m n es) ∙ written_by_lower (constant_for kind) (prefix_part s) (prefix_part t) (payload_symbols s) prefix

@@ -41,7 +41,8 @@ part_of_90 : {w : ℕ} {s t : List ℕ} (constant m n : ℕ) → read_verdict co
     → length (data_part s) ≤ 88
 unfolding prefix_empty
 part_of_90 {s = s} constant m n e short c =
-    let some : length (prefix_part s) ≡ 0 → ⊥ = eqb-false (length (prefix_part s)) 0 (passed PrefixEmpty (reading_rules constant s) (reading_rules_lem constant s m n e)) in
+    let some : length (prefix_part s) ≡ 0 → ⊥ =
+    eqb-false (length (prefix_part s)) 0 (passed PrefixEmpty (reading_rules constant s) (reading_rules_lem constant s m n e)) in
     let whole : length s ≡ length (c.prefix ++ 49 ∷ c.part) = ap length c.before in
     omega (arith, some, length-append c.prefix (49 ∷ c.part), ap length (part_before c), ap length (prefix_before c))
 

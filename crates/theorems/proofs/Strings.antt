@@ -115,7 +115,8 @@ module _ {w : ℕ} {s t : List ℕ} (c : Changed w s t) where
       came : polymod 1 (expand (map lower c.prefix) ++ map symbol c.part) ≡ constant
       came =
           rw (← prefix_before, ← part_before)
-          (eqb-true (residue (prefix_part s) (map symbol (data_part s))) constant (not-false (eqb (residue (prefix_part s) (map symbol (data_part s))) constant) right))
+          (eqb-true (residue (prefix_part s) (map symbol (data_part s))) constant
+          (not-false (eqb (residue (prefix_part s) (map symbol (data_part s))) constant) right))
 
       folded_comes : residue (prefix_part t) (map symbol (data_part t)) ≡ constant
           → polymod 1 (expand (map lower c.prefix) ++ map symbol c.other) ≡ constant
