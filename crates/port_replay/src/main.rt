@@ -2,7 +2,7 @@
 // come is in the file stdout, which the Rust wrote (tests/oracle/PORTS.md).
 #![tactic(auto)]
 
-ghost use Rattle.std.specs.Prelude.{◌<◌, length, IfSome};
+ghost use Rattle.std.specs.Prelude.{◌<◌, ◌≤◌, length, IfSome};
 
 use checksum::Checksum;
 use hrp::Network;
@@ -15,14 +15,29 @@ use std::io::Read;
 // What lent room, 64 bytes, holds before.
 const MARK: u8 = 170;
 
-// So many bytes of the file are looked at.
-const INPUT_LENGTH: u64 = 65536;
-
 fn main(rt: HostRuntime) {
-    let mut cases = Vec::new(rt.alloc());
-    // where a read fails, what came before it is replayed
-    let _ = rt.reader().take(INPUT_LENGTH).read_to_end(&mut cases);
-    replay(&rt, &cases);
+    // Fixed memory: so many bytes of the file are looked at, and nothing here stands on an allocator.
+    let mut buffer = [0u8; 65536];
+    let n = read_full(&rt, &mut buffer);
+    replay(&rt, &buffer[..n]);
+}
+
+// Reads until the buffer is full, the input ends or a read fails; how many bytes then stand at its front.
+fn read_full(rt: &impl Input, buffer: &mut [u8]) -> usize
+    ensures { result ≤ length buffer.new }
+{
+    let mut input = rt.reader();
+    let mut done = 0;
+    while done < buffer.len() {
+        let Ok(n) = input.read(&mut buffer[done..]) else {
+            break;
+        };
+        if n == 0 {
+            break;
+        }
+        done += n;
+    }
+    done
 }
 
 // A kind, a number, and two strings.
