@@ -18,6 +18,7 @@ pub(crate) struct Frame<'a> {
 }
 
 impl<'a> Frame<'a> {
+    #[tactic(auto, using(crate::proofs::Laying::laid_copied, crate::proofs::Laying::laid_ready, crate::proofs::Laying::laid_finished))]
     pub(crate) fn put_symbols(self, symbols: &[u8], out: &mut [u8])
         requires { (length self.prefix.now + 7 + length symbols.now ≤ length out.old) × Every (λ v. v < 32) symbols.now }
         ensures { out.new ≡ written_string (constant_for self.entry.checksum) self.entry.prefix.now symbols.now
@@ -39,6 +40,7 @@ impl<'a> Frame<'a> {
     }
 
     // The symbols stand after the separator's place already, so many of them; the rest of the string is put around them.
+    #[tactic(auto, using(crate::proofs::Filling::length_kept))]
     fn finish(self, count: usize, out: &mut [u8])
         requires { (length self.prefix.now + 7 + count ≤ length out.old) × Every (λ v. v < 32) (take count (drop (length self.prefix.now + 1) out.old)) }
         ensures { out.new ≡ written_string (constant_for self.entry.checksum) self.entry.prefix.now
@@ -81,6 +83,7 @@ pub(crate) fn put_address(prefix: &[u8], version: u8, program: &[u8], out: &mut 
 }
 
 // The checksum after so many symbols, and all of them as letters.
+#[tactic(auto, using(crate::proofs::Filling::data_written))]
 fn put_data(residue: u32, count: usize, part: &mut [u8])
     requires { count + 6 ≤ length part.old }
     ensures { part.new ≡ map character (take count part.old ++ six_symbols residue) ++ drop (count + 6) part.old }
