@@ -11,7 +11,7 @@ use numbers::{ACCEPTED, Refusal};
 pub const MAX_ENTRIES: usize = 32;
 
 // One address of a batch: where it stands in the buffer; its verdict, 0 or a number of `numbers`, and with 0 its version and its program's length. C has it
-// with the same layout.
+// with the same layout, so the verdict is a number and no Result.
 #[repr(C)]
 #[derive(Clone, Copy)]
 pub struct Entry {

@@ -4,7 +4,7 @@
 
 ghost use Rattle.std.specs.Prelude.{◌≤◌, length, IfOk};
 
-use lines::Line;
+use lines::{KEPT, Line};
 use std::fmt;
 use std::io::Read;
 
@@ -32,34 +32,27 @@ impl fmt::Display for Failure {
 }
 
 fn main(rt: HostRuntime) {
-    let mut line = [0u8; 91];
-    let mut piece = [0u8; 65536];
-    let mut out = [0u8; 65536];
-    if let Err(failure) = run(&rt, &mut line, &mut piece, &mut out) {
+    if let Err(failure) = run(&rt) {
         // A message that cannot be written is lost.
         let _ = rt.eprintln(failure);
     }
 }
 
 // Piece by piece to the end of the input. Each piece's answers are written before more is read.
-fn run(
-    rt: &(impl Input + Print),
-    line: &mut [u8],
-    piece: &mut [u8],
-    out: &mut [u8],
-) -> Result<(), Failure>
-    requires { (91 ≤ length line.old) × (3 ≤ length out.old) }
-{
+fn run(rt: &(impl Input + Print)) -> Result<(), Failure> {
+    let mut line = [0u8; KEPT];
+    let mut piece = [0u8; 65536];
+    let mut out = [0u8; 65536];
     let mut input = rt.reader();
     let mut len = 0;
     for _ in 0..u64::MAX {
-        let Ok(n) = input.read(piece) else {
+        let Ok(n) = input.read(&mut piece) else {
             return Err(Failure::Reading);
         };
         if n == 0 {
-            return finish(rt, line, len, out);
+            return finish(rt, &line, len, &mut out);
         }
-        len = answer(rt, &piece[..n], line, len, out)?;
+        len = answer(rt, &piece[..n], &mut line, len, &mut out)?;
     }
     Err(Failure::InputLong)
 }

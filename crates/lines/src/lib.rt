@@ -18,7 +18,8 @@ pub const KEPT: usize = 91;
 
 const LINE_END: u8 = b'\n';
 
-// What is known of a line that is not ended yet: how many of its bytes stand at the front of the line buffer. 0 at the start of the input.
+// What is known of a line that is not ended yet: how many of its bytes stand at the front of the line buffer. 0 at the start of the input. The buffer
+// is no part of it: firmware lends one to each call, and keeps this count alone between calls.
 #[derive(Clone, Copy)]
 pub struct Line {
     pub len: usize,
@@ -145,7 +146,8 @@ fn answer_length(number: u8) -> usize
     3
 }
 
-// A number in decimal, and a line end, at this place of the output; what comes back is the place after it.
+// A number in decimal, and a line end, at this place of the output; what comes back is the place after it. By hand, as itoa and `write!` are no plainer
+// for two digits at most: the first asks for a bound on the number, and neither tells beforehand whether there is room.
 fn put(number: u8, out: &mut [u8], at: usize) -> usize
     requires { at + answer_length number ≤ length out.old }
     ensures { (result ≡ at + length (decimal number ++ 10 ∷ [])) × (out.new ≡ sets out.old at (decimal number ++ 10 ∷ [])) }
