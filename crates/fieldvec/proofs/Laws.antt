@@ -12,6 +12,8 @@ use lib.ListN.{length, take, drop, get_or, set, length-append}
 use Rattle.std.proofs.lemmas.List.{get_or-take, length-take}
 use lib.Seq.{length-take-le, take-set-le, take-suc-set, take-append_seam, get_or-append_seam}
 use Rattle.std.specs.Prelude.{⊤, Result, Ok, Err}
+use Rattle.std.specs.Result.{IsErrAnd}
+use Rattle.std.proofs.lemmas.Result.{err_from_is_err_and}
 use Rattle.std.specs.List.{list_all, zip}
 use Rattle.laws.specs.Pick.{pick}
 use Rattle.laws.proofs.Bools.{and_false}
@@ -47,9 +49,8 @@ module _ (t : FieldVec) where
   shown_whole h = rw (le-ltb 7 t.len h)
 
   -- what the exit of a `?` on the elements returns
-  pub exit : {A : Type 0} (r : Result A Refusal) {refusal : Refusal} → (y : Refusal) × (r ≡ Err y) × (y ≡ refusal) → Err refusal ≡ shown t
-      → (7 < t.len) × (r ≡ Err ListPlace)
-  exit r p e = ((shown_err e).0, p.1 ∙ ap Err (p.2 ∙ (shown_err e).1))
+  pub exit : {A : Type 0} (r : Result A Refusal) {refusal : Refusal} → IsErrAnd r (λ y. y ≡ refusal) → Err refusal ≡ shown t → (7 < t.len) × (r ≡ Err ListPlace)
+  exit r returned e = let p = err_from_is_err_and r returned in ((shown_err e).0, p.1 ∙ ap Err (p.2 ∙ (shown_err e).1))
 
   module _ {A : Type 0} {answer : Result (A × FieldVec) Refusal} where
     -- a refusal leaves the list as it was
