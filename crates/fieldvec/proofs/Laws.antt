@@ -12,6 +12,8 @@ use lib.ListN.{length, take, drop, get_or, set, length-append}
 use Rattle.std.proofs.lemmas.List.{get_or-take, length-take}
 use lib.Seq.{length-take-le, take-set-le, take-suc-set, take-append_seam, get_or-append_seam}
 use Rattle.std.specs.Prelude.{⊤, Result, Ok, Err}
+use Rattle.std.specs.Result.{IsErrAnd}
+use Rattle.std.proofs.lemmas.Result.{err_from_is_err_and}
 use Rattle.std.specs.List.{list_all, zip}
 use denote.Ref.{Bor}
 use Rattle.laws.specs.Pick.{pick}
@@ -32,7 +34,8 @@ module _ (t : FieldVec) where
   unfolding shown
   shown_ok place {s} e = by (ltb 7 t.len) refl e
     where
-      by : (b : Bool) → ltb 7 t.len ≡ b → Ok s ≡ pick {A = Result (Bor (List ℕ)) Refusal} b (Err ListPlace) (Ok (record { ref_ptr = place; now = elements t })) → (t.len ≤ 7) × (s.now ≡ elements t)
+      by : (b : Bool) → ltb 7 t.len ≡ b → Ok s ≡ pick {A = Result (Bor (List ℕ)) Refusal} b (Err ListPlace) (Ok (record { ref_ptr = place; now = elements t }))
+          → (t.len ≤ 7) × (s.now ≡ elements t)
       by true s e = cc
       by false s e = (ltb-false 7 t.len s, ap (λ r. r.now) (ok_injective _ _ e))
 
@@ -40,14 +43,17 @@ module _ (t : FieldVec) where
   unfolding shown
   shown_err place {refusal} e = by (ltb 7 t.len) refl e
     where
-      by : (b : Bool) → ltb 7 t.len ≡ b → Err refusal ≡ pick {A = Result (Bor (List ℕ)) Refusal} b (Err ListPlace) (Ok (record { ref_ptr = place; now = elements t })) → (7 < t.len) × (refusal ≡ ListPlace)
+      by : (b : Bool) → ltb 7 t.len ≡ b
+          → Err refusal ≡ pick {A = Result (Bor (List ℕ)) Refusal} b (Err ListPlace) (Ok (record { ref_ptr = place; now = elements t }))
+          → (7 < t.len) × (refusal ≡ ListPlace)
       by true s e = (ltb-true 7 t.len s, cc)
       by false s e = cc
 
   -- what the exit of a `?` on the elements returns
-  pub exit : {A : Type 0} (place : ℕ × ℕ) (r : Result A Refusal) {refusal : Refusal} → (y : Refusal) × (r ≡ Err y) × (y ≡ refusal)
-      → Err refusal ≡ shown t place → (7 < t.len) × (r ≡ Err ListPlace)
-  exit place r p e = ((shown_err place e).0, p.1 ∙ ap Err (p.2 ∙ (shown_err place e).1))
+  pub exit : {A : Type 0} (place : ℕ × ℕ) (r : Result A Refusal) {refusal : Refusal} → IsErrAnd r (λ y. y ≡ refusal) → Err refusal ≡ shown t place
+      → (7 < t.len) × (r ≡ Err ListPlace)
+  exit place r returned e =
+      let p = err_from_is_err_and r returned in ((shown_err place e).0, p.1 ∙ ap Err (p.2 ∙ (shown_err place e).1))
 
   module _ {A : Type 0} {answer : Result (A × FieldVec) Refusal} where
     -- a refusal leaves the list as it was

@@ -34,6 +34,7 @@ impl FieldVec {
     }
 
     // The stored numbers, where they lie.
+    #[tactic(auto, unfolding(crate::specs::Lists::shown))]
     pub fn elements(&self) -> Result<&[u16], Refusal>
         ensures { Shown self.now self.entry.ref_ptr result }
     {
@@ -129,6 +130,7 @@ pub fn lift(symbols: &[u8]) -> Result<FieldVec, Refusal>
 }
 
 // The first n powers of an element, from its power 0, which is 1.
+#[tactic(auto, unfolding(crate::specs::Lists::powers_given))]
 pub fn powers(base: u32, n: usize) -> Result<FieldVec, Refusal>
     ensures { PowersGiven base n result }
 {

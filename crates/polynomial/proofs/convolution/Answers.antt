@@ -1,7 +1,6 @@
 -- `convolution` meets its promise, exit by exit.
 use mathlib.Core.Path.{sym, ap, ap₂, ◌∙◌}
 use Rattle.std.specs.Prelude.{Ok}
-use Rattle.std.proofs.lemmas.Result.{err_from_is_err_and}
 use Rattle.fieldvec.proofs.Laws.{shown_ok, exit, elements_short}
 use Rattle.fieldvec.specs.Lists.{elements, listed}
 use Rattle.polynomial.specs.Products.{convolved}
@@ -12,7 +11,7 @@ use Rattle.polynomial.proofs.convolution.Goals as goal
 pub returns-in_err-elements : goal.returns-in_err-elements
 unfolding convolution_of
 returns-in_err-elements c =
-    let out = exit c.args.p.now _ c.from_residual.result (err_from_is_err_and c.from_residual.result c.from_residual.ensures.1) c.in_err-elements.ensures in
+    let out = exit c.args.p.now _ c.from_residual.result c.from_residual.ensures.1 c.in_err-elements.ensures in
     out.1 ∙ sym (about_outside c.args.p.now (λ a. about c.args.q.now (λ b. Ok (listed (convolved a b)))) out.0)
 
 pub returns-in_err-elements-2 : goal.returns-in_err-elements-2
@@ -20,7 +19,7 @@ unfolding convolution_of
 returns-in_err-elements-2 c =
     let shown = shown_ok c.args.p.now _ c.in_ok-elements.ensures in
     let r = c.from_residual-in_err-elements-2 in
-    let out = exit c.args.q.now _ r.result (err_from_is_err_and r.result r.ensures.1) c.in_err-elements-2.ensures in
+    let out = exit c.args.q.now _ r.result r.ensures.1 c.in_err-elements-2.ensures in
     out.1
     ∙ sym (about_whole c.args.p.now (λ a. about c.args.q.now (λ b. Ok (listed (convolved a b)))) shown.0
     ∙ about_outside c.args.q.now (λ b. let a = elements c.args.p.now in Ok (listed (convolved a b))) out.0)

@@ -1,7 +1,6 @@
 -- `degree` meets its promise, exit by exit.
 use mathlib.Core.Path.{sym, ap, ◌∙◌}
 use Rattle.std.specs.Prelude.{Ok}
-use Rattle.std.proofs.lemmas.Result.{err_from_is_err_and}
 use Rattle.fieldvec.proofs.Laws.{shown_ok, exit}
 use Rattle.polynomial.specs.Polynomials.{degree}
 use Rattle.polynomial.specs.Answers.{degree_of}
@@ -11,7 +10,7 @@ use Rattle.polynomial.proofs.degree.Goals as goal
 pub returns-in_err-elements : goal.returns-in_err-elements
 unfolding degree_of
 returns-in_err-elements c =
-    let out = exit c.args.p.now _ c.from_residual.result (err_from_is_err_and c.from_residual.result c.from_residual.ensures.1) c.in_err-elements.ensures in
+    let out = exit c.args.p.now _ c.from_residual.result c.from_residual.ensures.1 c.in_err-elements.ensures in
     out.1 ∙ sym (about_outside c.args.p.now (λ l. Ok (degree l)) out.0)
 
 pub returns : goal.returns

@@ -6,7 +6,6 @@ use native.Mathlib.Omega.{arith}
 use borrow.Author.Tests.{eq-eqb, ne_eqb}
 use lib.Dec.{eqb}
 use Rattle.std.specs.Prelude.{Option, Result, Ok, Err}
-use Rattle.std.proofs.lemmas.Result.{err_from_is_err_and}
 use Rattle.laws.specs.Pick.{pick}
 use Rattle.numbers.specs.declared.Refusal.{Refusal}
 use Rattle.numbers.specs.declared.Refusal.TheVariants.{DivisionByZero}
@@ -23,7 +22,7 @@ found base k cs = pick (eqb (base % 1024) 0) (Err DivisionByZero) (Ok (root_afte
 pub returns-in_err-elements : goal.returns-in_err-elements
 unfolding first_root
 returns-in_err-elements c =
-    let out = exit c.args.p.now _ c.from_residual.result (err_from_is_err_and c.from_residual.result c.from_residual.ensures.1) c.in_err-elements.ensures in
+    let out = exit c.args.p.now _ c.from_residual.result c.from_residual.ensures.1 c.in_err-elements.ensures in
     out.1 ∙ sym (about_outside c.args.p.now (found c.args.base c.args.from) out.0)
 
 pub returns-then-base-eq0 : goal.returns-then-base-eq0

@@ -1,6 +1,5 @@
 -- `multiply_mod_x_d` meets its promise, exit by exit.
 use mathlib.Core.Path.{sym, ap₂, ◌∙◌}
-use Rattle.std.proofs.lemmas.Result.{err_from_is_err_and}
 use Rattle.fieldvec.proofs.Laws.{shown_ok, exit, elements_short}
 use Rattle.fieldvec.specs.Lists.{elements}
 use Rattle.polynomial.specs.Products.{product_modulo}
@@ -11,7 +10,7 @@ use Rattle.polynomial.proofs.multiply_mod_x_d.Goals as goal
 pub returns-in_err-elements : goal.returns-in_err-elements
 unfolding product_of
 returns-in_err-elements c =
-    let out = exit c.args.p.now _ c.from_residual.result (err_from_is_err_and c.from_residual.result c.from_residual.ensures.1) c.in_err-elements.ensures in
+    let out = exit c.args.p.now _ c.from_residual.result c.from_residual.ensures.1 c.in_err-elements.ensures in
     out.1 ∙ sym (about_outside c.args.p.now (λ a. about c.args.q.now (λ b. fitting (product_modulo a b c.args.d))) out.0)
 
 pub returns-in_err-elements-2 : goal.returns-in_err-elements-2
@@ -19,7 +18,7 @@ unfolding product_of
 returns-in_err-elements-2 c =
     let shown = shown_ok c.args.p.now _ c.in_ok-elements.ensures in
     let r = c.from_residual-in_err-elements-2 in
-    let out = exit c.args.q.now _ r.result (err_from_is_err_and r.result r.ensures.1) c.in_err-elements-2.ensures in
+    let out = exit c.args.q.now _ r.result r.ensures.1 c.in_err-elements-2.ensures in
     out.1
     ∙ sym (about_whole c.args.p.now (λ a. about c.args.q.now (λ b. fitting (product_modulo a b c.args.d))) shown.0
     ∙ about_outside c.args.q.now (λ b. let a = elements c.args.p.now in fitting (product_modulo a b c.args.d)) out.0)

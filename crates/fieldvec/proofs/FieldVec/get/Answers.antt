@@ -1,14 +1,13 @@
 -- `FieldVec::get` meets its promise, exit by exit.
 use mathlib.Core.Path.{sym, ap, ◌∙◌}
 use native.Mathlib.Omega.{arith}
-use Rattle.std.proofs.lemmas.Result.{err_from_is_err_and}
 use Rattle.std.specs.Prelude.{Ok}
 use Rattle.fieldvec.proofs.Laws.{shown_ok, exit, got_outside, got_at, got_past}
 use Rattle.fieldvec.proofs.FieldVec.get.Goals as goal
 
 pub returns-in_err-elements : goal.returns-in_err-elements
 returns-in_err-elements c =
-    let out = exit c.args.self.now _ c.from_residual.result (err_from_is_err_and c.from_residual.result c.from_residual.ensures.1) c.in_err-elements.ensures in
+    let out = exit c.args.self.now _ c.from_residual.result c.from_residual.ensures.1 c.in_err-elements.ensures in
     out.1 ∙ sym (got_outside c.args.self.now out.0 c.args.at)
 
 pub returns-in-Some : goal.returns-in-Some

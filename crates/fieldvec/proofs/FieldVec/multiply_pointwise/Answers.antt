@@ -4,7 +4,6 @@ use Prim.Native.Nat.{◌≤◌}
 use native.Mathlib.Omega.{arith}
 use borrow.Author.Rules.{rules}
 use lib.ListN.{length, get_or}
-use Rattle.std.proofs.lemmas.Result.{err_from_is_err_and}
 use Rattle.gf32_ext.specs.Field.{product}
 use Rattle.fieldvec.specs.Lists.{listed, pointwise}
 use Rattle.fieldvec.proofs.Build.{listed_is, pointwise_length, pointwise_at}
@@ -14,13 +13,13 @@ use Rattle.fieldvec.proofs.FieldVec.multiply_pointwise.Goals as goal
 pub returns-in_err-factors : goal.returns-in_err-factors
 returns-in_err-factors c =
     let r = c.from_residual in
-    let out = exit c.args.other.now _ r.result (err_from_is_err_and r.result r.ensures.1) c.in_err-factors.ensures in
+    let out = exit c.args.other.now _ r.result r.ensures.1 c.in_err-factors.ensures in
     refuses c.args.self.now out.1 (multiplied_refused c.args.self.now c.args.other.now (λ h e. omega (arith, out.0)))
 
 pub returns-in_err-elements : goal.returns-in_err-elements
 returns-in_err-elements c =
     let r = c.from_residual-in_err-elements in
-    let out = exit c.args.self.now _ r.result (err_from_is_err_and r.result r.ensures.1) c.in_err-elements.ensures in
+    let out = exit c.args.self.now _ r.result r.ensures.1 c.in_err-elements.ensures in
     refuses c.args.self.now out.1 (multiplied_refused c.args.self.now c.args.other.now (λ h e. omega (arith, out.0)))
 
 pub returns-then-elements-factors : goal.returns-then-elements-factors

@@ -1,13 +1,12 @@
 -- `FieldVec::pop` meets its promise, exit by exit.
 use mathlib.Core.Path.{refl, sym, ◌∙◌}
 use native.Mathlib.Omega.{arith}
-use Rattle.std.proofs.lemmas.Result.{err_from_is_err_and}
 use Rattle.fieldvec.proofs.Laws.{shown_ok, exit, refuses, changes, elements_short, popped_back_outside, popped_back_none, popped_back_last}
 use Rattle.fieldvec.proofs.FieldVec.pop.Goals as goal
 
 pub returns-in_err-elements : goal.returns-in_err-elements
 returns-in_err-elements c =
-    let out = exit c.args.self.now _ c.from_residual.result (err_from_is_err_and c.from_residual.result c.from_residual.ensures.1) c.in_err-elements.ensures in
+    let out = exit c.args.self.now _ c.from_residual.result c.from_residual.ensures.1 c.in_err-elements.ensures in
     refuses c.args.self.now out.1 (popped_back_outside c.args.self.now out.0)
 
 pub returns-in_default : goal.returns-in_default

@@ -3,14 +3,13 @@ use mathlib.Core.Path.{refl, sym, ◌∙◌}
 use native.Mathlib.Omega.{arith}
 use lib.ListN.{length}
 use borrow.Author.Rules.{rules}
-use Rattle.std.proofs.lemmas.Result.{err_from_is_err_and}
 use Rattle.fieldvec.proofs.Build.{listed_is}
 use Rattle.fieldvec.proofs.Laws.{shown_ok, exit, refuses, changes, elements_short, popped_front_outside, popped_front_none, popped_front_first}
 use Rattle.fieldvec.proofs.FieldVec.pop_front.Goals as goal
 
 pub returns-in_err-elements : goal.returns-in_err-elements
 returns-in_err-elements c =
-    let out = exit c.args.self.now _ c.from_residual.result (err_from_is_err_and c.from_residual.result c.from_residual.ensures.1) c.in_err-elements.ensures in
+    let out = exit c.args.self.now _ c.from_residual.result c.from_residual.ensures.1 c.in_err-elements.ensures in
     refuses c.args.self.now out.1 (popped_front_outside c.args.self.now out.0)
 
 pub returns-in_default : goal.returns-in_default

@@ -5,7 +5,6 @@ use Prim.Native.Nat.{◌-◌, ◌≤◌}
 use native.Mathlib.Omega.{arith}
 use borrow.Author.Rules.{rules}
 use lib.ListN.{length, get_or, length-reverse}
-use Rattle.std.proofs.lemmas.Result.{err_from_is_err_and}
 use Rattle.std.proofs.lemmas.List.{get_or-reverse}
 use Rattle.fieldvec.specs.Lists.{listed}
 use Rattle.fieldvec.proofs.Build.{listed_is}
@@ -14,7 +13,7 @@ use Rattle.fieldvec.proofs.FieldVec.reverse.Goals as goal
 
 pub returns-in_err-elements : goal.returns-in_err-elements
 returns-in_err-elements c =
-    let out = exit c.args.self.now _ c.from_residual.result (err_from_is_err_and c.from_residual.result c.from_residual.ensures.1) c.in_err-elements.ensures in
+    let out = exit c.args.self.now _ c.from_residual.result c.from_residual.ensures.1 c.in_err-elements.ensures in
     refuses c.args.self.now out.1 (reversed_outside c.args.self.now out.0)
 
 pub listed_by-requires-clause-room : goal.listed_by-requires-clause-room
