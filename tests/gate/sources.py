@@ -163,7 +163,9 @@ def functions_of(text, module, file):
             attributes = step["attributes"] or ""
             public = bool("no_mangle" in attributes or step["pub"] and not step["within"])
             line = text.count("\n", 0, step.start("name")) + 1
-            parameters, lent, result, clauses = contract(text, step.end())
+            parameters, lent, result, clauses, body = contract(text, step.end())
+            if not body:  # a trait only declares it
+                continue
             found.append(Function(f"{scopes[-1]}::{step['name']}", file, line, public, parameters, lent, result, [], clauses, brought, attributes))
         elif step["scope"]:
             scopes.append(scopes[-1] + "::" + scope_name(step["scope"]))
@@ -189,7 +191,7 @@ CLAUSE = re.compile(r"\b(?:(ghost)(?:\s+\w+\s*:)?|(requires|ensures)(\*)?(?:\s+[
 
 
 def contract(text, at):
-    """What stands after a function's name: (parameters, those that are &mut, the text of the result, clauses)."""
+    """What stands after a function's name: (parameters, those that are &mut, the text of the result, clauses, whether it has a body)."""
     start = text.find("(", past_angles(text, at))
     at = closing(text, start)
     parameters = re.findall(r"(?:^|,)\s*(?:mut\s+)?(?:&\s*(?:'\w+\s+)?(?:mut\s+)?)?(\w+)\s*(?=[:,]|$)", flat(text[start + 1:at]))
@@ -206,7 +208,8 @@ def contract(text, at):
             at = closing(text, brace)
             continue
         if brace < 0 or not clause:  # this brace opens the body
-            return parameters, [a or b for a, b in lent], result, clauses
+            body = brace >= 0 and ";" not in re.sub(r"\[[^]]*\]", "", head)
+            return parameters, [a or b for a, b in lent], result.partition(";")[0] if not body else result, clauses, body
         at = closing(text, brace)
         clauses["other" if clause[3] else clause[1] or clause[2]].append(text[brace + 1:at])
 
@@ -241,15 +244,15 @@ def closing(text, start):
     return len(text)
 
 
-# The functions that a derive writes. A copied type's clone is none.
-DERIVED = {"PartialEq": "eq", "PartialOrd": "partial_cmp", "Ord": "cmp", "Debug": "fmt", "Default": "default", "Hash": "hash"}
+# The functions that a derive writes. The clone of a type that is copied is none.
+DERIVED = {"PartialEq": "eq", "PartialOrd": "partial_cmp", "Ord": "cmp", "Debug": "fmt", "Default": "default", "Hash": "hash", "Clone": "clone"}
 
 
 def derived(root, crate):
     """The names of the functions that the derives of a crate write, each as often as it is written."""
-    listed = (word for path in sorted((root / "crates" / crate / "src").rglob("*.rt"))
-              for words in re.findall(r"#\[derive\(([^)]*)\)\]", read_without(RATTLE_SILENT, path)) for word in words.split(","))
-    return [DERIVED[word.strip()] for word in listed if word.strip() in DERIVED]
+    listed = [re.findall(r"\w+", words) for path in sorted((root / "crates" / crate / "src").rglob("*.rt"))
+              for words in re.findall(r"#\[derive\(([^)]*)\)\]", read_without(RATTLE_SILENT, path))]
+    return [DERIVED[word] for words in listed for word in words if word in DERIVED and not (word == "Clone" and "Copy" in words)]
 
 
 def empty_enums(root, crate):

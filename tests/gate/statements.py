@@ -135,7 +135,7 @@ def fixed_by(declared, fact, name, seen):
 # What may be asked for all values of: types that hold data. A type of another kind could be one that nothing has.
 KIT = {"Prim.Native.Nat.ℕ", "mathlib.Core.List.List", "mathlib.Core.Bool.Bool"}
 KIT |= {f"{home}.{word}" for home in LIBRARY[:2] for word in ("ℕ", "List", "Bool", "Option", "Result", "⊤")}
-KIT |= {"Rattle.std.specs.declared.cmp.Ordering.Ordering"}
+KIT |= {"Rattle.std.specs.declared.cmp.Ordering.Ordering", "denote.Ref.Bor"}
 OURS = re.compile(rf"Rattle\.(\w+)\.(?:specs|proofs)\.(.+)\.({NAME})")
 
 

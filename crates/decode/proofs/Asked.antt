@@ -29,4 +29,5 @@ program_there characters h =
 pub sum_enough : (constant : ℕ) (prefix characters : List ℕ) → Ok tt ≡ sum_verdict constant prefix characters → 6 ≤ length characters
 unfolding sum_verdict
 sum_enough constant prefix characters e =
-    ltb-false (length characters) 6 (passed DataShort (sum_rules constant prefix characters) (accepted_only tt tt (sum_rules constant prefix characters) (sym e)).0)
+    ltb-false (length characters) 6
+    (passed DataShort (sum_rules constant prefix characters) (accepted_only tt tt (sum_rules constant prefix characters) (sym e)).0)

@@ -9,7 +9,7 @@ use Rattle.paper.specs.Bits.{to_bytes}
 use Rattle.numbers.specs.Numbers.{number_in}
 use Rattle.numbers.proofs.Numbers.{err_apart}
 use Rattle.answers.specs.Numbers.{prefix_in}
-use Rattle.answers.specs.Reading.{prefix_part, data_part, payload, payload_symbols}
+use Rattle.answers.specs.Reading.{prefix_part, data_part, payload, payload_symbols, accepts_parts, accepts_address}
 use Rattle.answers.proofs.Computing.{computing}
 use Rattle.answers.proofs.Cases.{taproot, payload_bech32}
 use Rattle.checksum.specs.declared.Checksum.{Checksum}
@@ -22,7 +22,6 @@ use Rattle.numbers.specs.declared.Refusal.{Refusal}
 use Rattle.numbers.specs.declared.Refusal.TheVariants.{MixedCase, NoSeparator, PrefixByte}
 use Rattle.answers.specs.declared.Parts.{Parts}
 use Rattle.answers.specs.declared.Address.{Address}
-use Rattle.answers.specs.Reading.{accepts_parts, accepts_address}
 use Rattle.std.specs.Prelude.{Result, Ok, Err}
 
 -- document 01, "Cases"
@@ -46,18 +45,21 @@ other_sum_text = bytes "tb1z0xlxvlhemja6c4dqv22uapctqupfhlxm9h8z3k2e72q4k9hcz7vq
 -- ---- strings of the same length as BIP-173's `a12uel5l`, whose residue is right where its lengths are taken for theirs: no separator, mixed case, a
 -- space as prefix
 
-pub no_separator_refused : (checksum : Checksum) (r : Result Parts Refusal) (p : Result Parts Refusal) (a : Result Address Refusal) → WasRead checksum (bytes "az2uel5l") r → WasSplit (bytes "az2uel5l") p
-    → AddressChecked (bytes "az2uel5l") a → (r ≡ Err NoSeparator) × (p ≡ Err NoSeparator) × (a ≡ Err NoSeparator)
+pub no_separator_refused : (checksum : Checksum) (r p : Result Parts Refusal) (a : Result Address Refusal)
+    → WasRead checksum (bytes "az2uel5l") r → WasSplit (bytes "az2uel5l") p → AddressChecked (bytes "az2uel5l") a
+    → (r ≡ Err NoSeparator) × (p ≡ Err NoSeparator) × (a ≡ Err NoSeparator)
 unfolding computing split_verdict
 no_separator_refused checksum r p a e f g = (e, f, g)
 
-pub mixed_case_refused : (checksum : Checksum) (r : Result Parts Refusal) (p : Result Parts Refusal) (a : Result Address Refusal) → WasRead checksum (bytes "a12UEL5l") r → WasSplit (bytes "a12UEL5l") p
-    → AddressChecked (bytes "a12UEL5l") a → (r ≡ Err MixedCase) × (p ≡ Err MixedCase) × (a ≡ Err MixedCase)
+pub mixed_case_refused : (checksum : Checksum) (r p : Result Parts Refusal) (a : Result Address Refusal)
+    → WasRead checksum (bytes "a12UEL5l") r → WasSplit (bytes "a12UEL5l") p → AddressChecked (bytes "a12UEL5l") a
+    → (r ≡ Err MixedCase) × (p ≡ Err MixedCase) × (a ≡ Err MixedCase)
 unfolding computing split_verdict
 mixed_case_refused checksum r p a e f g = (e, f, g)
 
-pub space_refused : (checksum : Checksum) (r : Result Parts Refusal) (p : Result Parts Refusal) (a : Result Address Refusal) → WasRead checksum (bytes " 1nwldj5") r → WasSplit (bytes " 1nwldj5") p
-    → AddressChecked (bytes " 1nwldj5") a → (r ≡ Err PrefixByte) × (p ≡ Err PrefixByte) × (a ≡ Err PrefixByte)
+pub space_refused : (checksum : Checksum) (r p : Result Parts Refusal) (a : Result Address Refusal)
+    → WasRead checksum (bytes " 1nwldj5") r → WasSplit (bytes " 1nwldj5") p → AddressChecked (bytes " 1nwldj5") a
+    → (r ≡ Err PrefixByte) × (p ≡ Err PrefixByte) × (a ≡ Err PrefixByte)
 unfolding computing split_verdict
 space_refused checksum r p a e f g = (e, f, g)
 

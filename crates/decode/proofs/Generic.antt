@@ -40,41 +40,35 @@ module _ (constant : ℕ) (s : List ℕ) where
   unfolding split_verdict
   read_split_refused r e = stage_refuses (parts_of s) accepted_parts (string_rules s) rest_rules r e ∙ in_stages
 
-  module _ (none : NoneApplies (string_rules s)) where
+  module _ (lent : Place) (h : Halves) (own : Halved (string_rules s) lent s (data_part s) h) where
     rest : first_of rest_rules accepted_parts ≡ read_verdict constant s
-    rest = rest_decides (string_rules s) rest_rules accepted_parts none ∙ in_stages
+    rest = rest_decides (string_rules s) rest_rules accepted_parts own.accepted ∙ in_stages
 
     pub read_long : 1023 < length s → Err StringLong ≡ read_verdict constant s
     unfolding longer_than
-    read_long h = rw (lt-ltb 1023 (length s) h) at rest
+    read_long long = rw (lt-ltb 1023 (length s) long) at rest
 
-    module _ (short : length s ≤ 1023) (prefix characters : List ℕ) (prefix_is : prefix ≡ prefix_part s) (characters_are : characters ≡ data_part s) where
-      pub read_sum_refused : (r : Refusal) → Err r ≡ sum_verdict constant prefix characters → Err r ≡ read_verdict constant s
+    module _ (short : length s ≤ 1023) where
+      pub read_sum_refused : (r : Refusal) → Err r ≡ sum_verdict constant h.prefix.now h.characters.now → Err r ≡ read_verdict constant s
       unfolding sum_verdict longer_than
       read_sum_refused r e =
-          stage_refuses tt accepted_parts last_rules [] r (rw (prefix_is, characters_are) at e)
+          stage_refuses tt accepted_parts last_rules [] r (rw (own.prefix, own.characters) at e)
           ∙ (rw (le-ltb 1023 (length s) short) at rest)
 
-      module _ (checked : Ok tt ≡ sum_verdict constant prefix characters) where
-        sum_passed : NoneApplies last_rules
-        unfolding sum_verdict
-        sum_passed = (accepted_only tt tt last_rules (sym (rw (prefix_is, characters_are) at checked))).0
-
-        all_passed : NoneApplies (reading_rules constant s)
-        unfolding longer_than data_short checksum_wrong
-        all_passed = none_in_both (string_rules s) rest_rules none (le-ltb 1023 (length s) short, sum_passed)
-
-        pub checksum_off : (lent : Place) (h : Halves) → h.prefix.now ≡ prefix → h.characters.now ≡ take (length characters - 6) characters
-            → h.prefix.ref_ptr ≡ lent → h.characters.ref_ptr ≡ further lent (length (prefix_part s) + 1) → Halved (reading_rules constant s) lent s (payload s) h
-        unfolding payload
-        checksum_off lent h front part there further_on =
-            record {
-              accepted = all_passed;
-              prefix = front ∙ prefix_is;
-              characters = part ∙ ap (λ (l : List ℕ). take (length l - 6) l) characters_are;
-              prefix_there = there;
-              characters_there = further_on;
-            }
+      pub checksum_off : Ok tt ≡ sum_verdict constant h.prefix.now h.characters.now → (less : Halves) → less.prefix ≡ h.prefix
+          → less.characters.now ≡ take (length h.characters.now - 6) h.characters.now → less.characters.ref_ptr ≡ h.characters.ref_ptr
+          → Halved (reading_rules constant s) lent s (payload s) less
+      unfolding sum_verdict longer_than data_short checksum_wrong payload
+      checksum_off checked less front part there =
+          record {
+            accepted =
+                none_in_both (string_rules s) rest_rules own.accepted
+                (le-ltb 1023 (length s) short, (accepted_only tt tt last_rules (sym (rw (own.prefix, own.characters) at checked))).0);
+            prefix = rw front own.prefix;
+            characters = part ∙ ap (λ (l : List ℕ). take (length l - 6) l) own.characters;
+            prefix_there = rw front own.prefix_there;
+            characters_there = there ∙ own.characters_there;
+          }
 
 -- ---- what an accepted reading says of the string
 
@@ -100,7 +94,9 @@ module _ (constant : ℕ) (s : List ℕ) (m n : ℕ) (read : Ok (as_parts m n) �
   read_payload_length = sym (same_parts _ _ _ _ accepted.1).1
 
   pub read_length : m + 1 + n + 6 ≡ length s
-  read_length = let six : 6 ≤ length (data_part s) = data_enough in omega (arith, read_prefix_length, read_payload_length, payload_length s, own_length s present)
+  read_length =
+      let six : 6 ≤ length (data_part s) = data_enough in
+      omega (arith, read_prefix_length, read_payload_length, payload_length s, own_length s present)
 
   pub read_prefix : take m s ≡ prefix_part s
   read_prefix = ap (λ (k : ℕ). take k s) read_prefix_length ∙ own_front s present

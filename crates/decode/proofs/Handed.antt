@@ -7,7 +7,7 @@ use lib.ListN.{length, take, drop}
 use Rattle.laws.specs.Text.{bytes}
 use Rattle.paper.specs.Valid.{ValidString}
 use Rattle.answers.specs.Accepted.{ReadAs}
-use Rattle.answers.specs.Reading.{prefix_part, payload, read_verdict, part_of}
+use Rattle.answers.specs.Reading.{prefix_part, payload, read_verdict, part_of, accepts_parts}
 use Rattle.answers.proofs.Computing.{computing}
 use Rattle.answers.proofs.Exact.{valid_data, valid_prefix, reads_exactly}
 use Rattle.checksum.specs.Parameters.{constant_for}
@@ -18,7 +18,6 @@ use Rattle.decode.specs.Promises.{DataPartGiven, PrefixPartGiven}
 use Rattle.decode.proofs.Generic.{read_length, read_prefix, read_prefix_length, read_payload, read_payload_length}
 use Rattle.numbers.specs.declared.Refusal.{Refusal}
 use Rattle.answers.specs.declared.Parts.{Parts}
-use Rattle.answers.specs.Reading.{accepts_parts}
 use Rattle.std.specs.Prelude.{Result, Ok, Err}
 
 -- ---- of a valid string
@@ -60,8 +59,8 @@ nothing lent s at r there none =
 pub data_part_lies : (checksum : Checksum) (lent : Place) (s : List ℕ) (at : Place) (r : List ℕ) → DataPartGiven checksum lent s at r → PartOf lent s at r
 data_part_lies checksum lent s at r kept = by_verdict (read_verdict (constant_for checksum) s) refl kept.content kept.place
   where
-    by_verdict : (v : Result Parts Refusal) → v ≡ read_verdict (constant_for checksum) s → r ≡ part_of v (payload s) → at ≡ further lent (start_of v (length (prefix_part s) + 1))
-        → PartOf lent s at r
+    by_verdict : (v : Result Parts Refusal) → v ≡ read_verdict (constant_for checksum) s → r ≡ part_of v (payload s)
+        → at ≡ further lent (start_of v (length (prefix_part s) + 1)) → PartOf lent s at r
     by_verdict (Err refusal) e content place = nothing lent s at r place content
     by_verdict (Ok p) e content place =
         let long : length r ≡ p.symbols = ap length content ∙ sym (read_payload_length (constant_for checksum) s p.prefix p.symbols e) in

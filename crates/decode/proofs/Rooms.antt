@@ -7,7 +7,7 @@ use Rattle.paper.specs.Charset.{symbol}
 use Rattle.paper.specs.Bits.{to_bytes}
 use Rattle.numbers.specs.declared.Refusal.{Refusal}
 use Rattle.numbers.specs.declared.Refusal.TheVariants.{RoomSmall}
-use Rattle.answers.specs.Order.{◌gives◌, first_of}
+use Rattle.answers.specs.Order.{Rule, ◌gives◌, first_of}
 use Rattle.answers.specs.Reading.{prefix_part, payload, payload_symbols, version_of, program_of, room_small, reading_rules, address_rules, read_verdict, read_bytes_verdict, buffer_after, address_verdict, read_address_verdict, program_after, written_into, as_parts, as_address}
 use Rattle.answers.specs.declared.Parts.{Parts}
 use Rattle.answers.specs.declared.Address.{Address}
@@ -18,57 +18,67 @@ use Rattle.iter.specs.Writing.{Wrote}
 use Rattle.decode.specs.Asked.{◌>>=◌}
 use Rattle.decode.specs.Symbols.{read_symbols_verdict}
 use Rattle.decode.specs.Promises.{WasRead, SymbolsRead, BytesRead, AddressRead}
+use Rattle.decode.specs.Places.{Place}
+use Rattle.decode.specs.Halves.{lengths_of, Halved}
+use Rattle.decode.specs.declared.Halves.{Halves}
 use Rattle.decode.proofs.Stages.{staged}
+use Rattle.decode.proofs.Halving.{read_accepted}
 
 -- ---- generic reading, of any content
 
-module _ (constant : ℕ) (s content : List ℕ) (room : ℕ) where
-  into : (read_verdict constant s >>= (λ p. written_into room content))
-      ≡ first_of (reading_rules constant s ++ room_small room content gives RoomSmall ∷ []) (length content)
+module _ (constant : ℕ) (s content before : List ℕ) where
+  abbrev rules : List Rule
+  rules = reading_rules constant s ++ room_small (length before) content gives RoomSmall ∷ []
+
+  abbrev verdict : Result ℕ Refusal
+  verdict = first_of rules (length content)
+
+  into : (read_verdict constant s >>= (λ p. written_into (length before) content)) ≡ verdict
   unfolding read_verdict written_into
   into =
-      staged (as_parts (length (prefix_part s)) (length (payload s))) (length content) (reading_rules constant s) (room_small room content gives RoomSmall ∷ []) _
-      (λ none. refl)
+      staged (as_parts (length (prefix_part s)) (length (payload s))) (length content) (reading_rules constant s)
+      (room_small (length before) content gives RoomSmall ∷ []) _ (λ none. refl)
 
-  into_refused : (r : Refusal) → Err r ≡ read_verdict constant s
-      → Err r ≡ first_of (reading_rules constant s ++ room_small room content gives RoomSmall ∷ []) (length content)
-  into_refused r e = rw (← e) at into
+  refused : (r : Refusal) → Err r ≡ read_verdict constant s → (Err r ≡ verdict) × (before ≡ buffer_after verdict content before)
+  refused r e =
+      let same : Err r ≡ verdict = rw (← e) at into in
+      (same, ap (λ (w : Result ℕ Refusal). buffer_after w content before) same)
 
-  into_accepted : (p : Parts) → Ok p ≡ read_verdict constant s
-      → written_into room content ≡ first_of (reading_rules constant s ++ room_small room content gives RoomSmall ∷ []) (length content)
-  into_accepted p e = rw (← e) at into
+  written : (p : Parts) → Ok p ≡ read_verdict constant s → (r : Result ℕ Refusal) (after : List ℕ) → Wrote content before r after
+      → (r ≡ verdict) × (after ≡ buffer_after verdict content before)
+  written p e r after wrote =
+      let same : written_into (length before) content ≡ verdict = rw (← e) at into in
+      (wrote.answer ∙ same, wrote.buffer ∙ ap (λ (w : Result ℕ Refusal). buffer_after w content before) same)
 
 module _ (checksum : Checksum) (s before : List ℕ) where
   pub symbols_refused : (r : Refusal) → WasRead checksum s (Err r) → SymbolsRead checksum s before (Err r) before
   unfolding read_symbols_verdict
-  symbols_refused r e =
-      let verdict = into_refused (constant_for checksum) s (payload_symbols s) (length before) r e in
-      record { answer = verdict; buffer = ap (λ (w : Result ℕ Refusal). buffer_after w (payload_symbols s) before) verdict }
+  symbols_refused r e = let known = refused (constant_for checksum) s (payload_symbols s) before r e in record { answer = known.0; buffer = known.1 }
 
   pub bytes_refused : (r : Refusal) → WasRead checksum s (Err r) → BytesRead checksum s before (Err r) before
   unfolding read_bytes_verdict
-  bytes_refused r e =
-      let verdict = into_refused (constant_for checksum) s (to_bytes (payload_symbols s)) (length before) r e in
-      record { answer = verdict; buffer = ap (λ (w : Result ℕ Refusal). buffer_after w (to_bytes (payload_symbols s)) before) verdict }
+  bytes_refused r e = let known = refused (constant_for checksum) s (to_bytes (payload_symbols s)) before r e in record { answer = known.0; buffer = known.1 }
 
-  module _ (p : Parts) (read : WasRead checksum s (Ok p)) (characters : List ℕ) (is : characters ≡ payload s) (r : Result ℕ Refusal) (after : List ℕ) where
-    symbols_are : map symbol characters ≡ payload_symbols s
+  module _ (lent : Place) (h : Halves) (own : Halved (reading_rules (constant_for checksum) s) lent s (payload s) h)
+      (r : Result ℕ Refusal) (after : List ℕ) where
+    read : Ok (lengths_of h) ≡ read_verdict (constant_for checksum) s
+    read = read_accepted (constant_for checksum) lent s h own
+
+    symbols_are : map symbol h.characters.now ≡ payload_symbols s
     unfolding payload_symbols
-    symbols_are = ap (map symbol) is
+    symbols_are = ap (map symbol) own.characters
 
-    pub symbols_written : Wrote (map symbol characters) before r after → SymbolsRead checksum s before r after
+    pub symbols_written : Wrote (map symbol h.characters.now) before r after → SymbolsRead checksum s before r after
     unfolding read_symbols_verdict
     symbols_written wrote =
-        let w = subst (λ (l : List ℕ). Wrote l before r after) symbols_are wrote in
-        let verdict = into_accepted (constant_for checksum) s (payload_symbols s) (length before) p read in
-        record { answer = w.answer ∙ verdict; buffer = w.buffer ∙ ap (λ (v : Result ℕ Refusal). buffer_after v (payload_symbols s) before) verdict }
+        let known = written (constant_for checksum) s (payload_symbols s) before (lengths_of h) read r after (rw symbols_are at wrote) in
+        record { answer = known.0; buffer = known.1 }
 
-    pub bytes_written : Wrote (to_bytes (map symbol characters)) before r after → BytesRead checksum s before r after
+    pub bytes_written : Wrote (to_bytes (map symbol h.characters.now)) before r after → BytesRead checksum s before r after
     unfolding read_bytes_verdict
     bytes_written wrote =
-        let w = subst (λ (l : List ℕ). Wrote (to_bytes l) before r after) symbols_are wrote in
-        let verdict = into_accepted (constant_for checksum) s (to_bytes (payload_symbols s)) (length before) p read in
-        record { answer = w.answer ∙ verdict; buffer = w.buffer ∙ ap (λ (v : Result ℕ Refusal). buffer_after v (to_bytes (payload_symbols s)) before) verdict }
+        let known = written (constant_for checksum) s (to_bytes (payload_symbols s)) before (lengths_of h) read r after (rw symbols_are at wrote) in
+        record { answer = known.0; buffer = known.1 }
 
 -- ---- segwit reading
 

@@ -26,7 +26,8 @@ begun s = record { passed = []; whole = append-nil s; joined = joined_none }
 
 -- the last of those that are left is one of the string's bytes
 last_byte : (s left less passed : List ℕ) (c : ℕ) → ((i : ℕ) → Fits w8 (get_or s i 0)) → left ≡ push less c → left ++ passed ≡ s → c < 256
-last_byte s left less passed c bytes last whole = subst (λ (k : ℕ). k < 256) (ap (λ (l : List ℕ). get_or l (length less) 0) parts ∙ there) ((bytes (length less)).fits)
+last_byte s left less passed c bytes last whole =
+    subst (λ (k : ℕ). k < 256) (ap (λ (l : List ℕ). get_or l (length less) 0) parts ∙ there) ((bytes (length less)).fits)
   where
     parts : s ≡ less ++ c ∷ passed
     parts = sym whole ∙ ap (λ (l : List ℕ). l ++ passed) last ∙ append_assoc less (c ∷ []) passed

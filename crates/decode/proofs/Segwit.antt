@@ -9,7 +9,7 @@ use Rattle.paper.specs.Checksum.{constant_of}
 use Rattle.paper.specs.Bits.{to_bytes}
 use Rattle.numbers.specs.declared.Refusal.{Refusal}
 use Rattle.numbers.specs.declared.Refusal.TheVariants.{AddressLong, NoData, PaddingLong, PaddingNotZero, ProgramLength, ProgramLengthVersion0}
-use Rattle.answers.specs.Order.{Rule, ◌gives◌, first_of, NoneApplies}
+use Rattle.answers.specs.Order.{Rule, ◌gives◌, first_of}
 use Rattle.answers.specs.Rules.{length_wrong, length_wrong_for0, padding_long, padding_not_zero, padding_verdict, length_verdict}
 use Rattle.answers.specs.Reading.{string_rules, prefix_part, data_part, payload, payload_symbols, version_of, program_symbols, program_of, longer_than, data_missing, data_short, checksum_wrong, payload_missing, address_verdict, as_address}
 use Rattle.answers.specs.declared.Address.{Address}
@@ -22,7 +22,7 @@ use Rattle.decode.specs.Splitting.{parts_of, split_verdict}
 use Rattle.decode.specs.Places.{Place}
 use Rattle.decode.specs.Halves.{Halved}
 use Rattle.decode.specs.declared.Halves.{Halves}
-use Rattle.decode.specs.Asked.{◌>>=◌, split_address, sum_rules, sum_verdict, version_in, version_rules, version_given, payload_in, program_in, payload_verdict, judgement}
+use Rattle.decode.specs.Asked.{◌>>=◌, address_split_rules, split_address, sum_rules, sum_verdict, version_in, version_rules, version_given, payload_in, program_in, payload_verdict, judgement}
 use Rattle.decode.proofs.Stages.{asked_next, staged, stage_refuses, rest_decides}
 use Rattle.decode.proofs.Asked.{sum_enough}
 
@@ -43,10 +43,7 @@ module _ (s : List ℕ) where
   abbrev after_version : List Rule
   after_version = sum_rules (constant_of (version_of s)) (prefix_part s) (data_part s) ++ after_sum
 
-  abbrev before : List Rule
-  before = longer_than 90 s gives AddressLong ∷ string_rules s
-
-  in_two : first_of (before ++ version_rules (data_part s) ++ after_version) accepted ≡ address_verdict s
+  in_two : first_of (address_split_rules s ++ version_rules (data_part s) ++ after_version) accepted ≡ address_verdict s
   unfolding address_verdict data_missing version_of data_short checksum_wrong
   in_two = refl
 
@@ -57,9 +54,6 @@ module _ (s : List ℕ) where
   program_own : to_bytes (map symbol (program_in (data_part s))) ≡ program_of s
   unfolding program_of
   program_own = ap to_bytes symbols_are
-
-  pub program_whole : (characters program : List ℕ) → characters ≡ data_part s → program ≡ program_in characters → to_bytes (map symbol program) ≡ program_of s
-  program_whole characters program own part = ap (λ (l : List ℕ). to_bytes (map symbol l)) (part ∙ ap program_in own) ∙ program_own
 
   length_is : length (to_bytes (program_in (data_part s))) ≡ length (program_of s)
   length_is = sym (characters_length (program_in (data_part s))) ∙ ap length program_own
@@ -83,7 +77,8 @@ module _ (s : List ℕ) where
       ≡ first_of after_payload accepted
   unfolding padding_verdict
   address_padding =
-      staged tt accepted (padding_long (program_symbols s) gives PaddingLong ∷ padding_not_zero (program_symbols s) gives PaddingNotZero ∷ []) lengths _ (λ none. address_lengths)
+      staged tt accepted (padding_long (program_symbols s) gives PaddingLong ∷ padding_not_zero (program_symbols s) gives PaddingNotZero ∷ []) lengths _
+      (λ none. address_lengths)
 
   pub address_parts : judgement (prefix_part s) (data_part s) ≡ first_of (version_rules (data_part s) ++ after_version) accepted
   unfolding judgement version_given sum_verdict payload_verdict version_of
@@ -103,7 +98,7 @@ module _ (s : List ℕ) where
 
   pub halves_short : length s ≤ 90 → (lent : Place) (r : Result Halves Refusal)
       → MatchResult r (λ h. Halved (string_rules s) lent s (data_part s) h) (λ refusal. Err refusal ≡ split_verdict s)
-      → MatchResult r (λ h. Halved before lent s (data_part s) h) (λ refusal. Err refusal ≡ split_address s)
+      → MatchResult r (λ h. Halved (address_split_rules s) lent s (data_part s) h) (λ refusal. Err refusal ≡ split_address s)
   unfolding split_address split_verdict longer_than
   halves_short short lent (Ok h) own =
       record {
@@ -117,12 +112,18 @@ module _ (s : List ℕ) where
 
   pub address_split_refused : (r : Refusal) → Err r ≡ split_address s → Err r ≡ address_verdict s
   unfolding split_address
-  address_split_refused r e = stage_refuses (parts_of s) accepted before (version_rules (data_part s) ++ after_version) r e ∙ in_two
+  address_split_refused r e = stage_refuses (parts_of s) accepted (address_split_rules s) (version_rules (data_part s) ++ after_version) r e ∙ in_two
 
-  pub address_judged : NoneApplies before → (prefix characters : List ℕ) → prefix ≡ prefix_part s → characters ≡ data_part s
-      → judgement prefix characters ≡ address_verdict s
-  address_judged none prefix characters p d =
-      ap₂ judgement p d ∙ address_parts ∙ rest_decides before (version_rules (data_part s) ++ after_version) accepted none ∙ in_two
+  module _ (lent : Place) (h : Halves) (own : Halved (address_split_rules s) lent s (data_part s) h) where
+    pub address_judged : judgement h.prefix.now h.characters.now ≡ address_verdict s
+    address_judged =
+        ap₂ judgement own.prefix own.characters
+        ∙ address_parts
+        ∙ rest_decides (address_split_rules s) (version_rules (data_part s) ++ after_version) accepted own.accepted
+        ∙ in_two
+
+    pub program_whole : (program : List ℕ) → program ≡ program_in h.characters.now → to_bytes (map symbol program) ≡ program_of s
+    program_whole program part = ap (λ (l : List ℕ). to_bytes (map symbol l)) (part ∙ ap program_in own.characters) ∙ program_own
 
 -- what an accepted judgement says of the characters
 pub judged_enough : (prefix characters : List ℕ) (a : Address) → Ok a ≡ judgement prefix characters → 7 ≤ length characters

@@ -52,36 +52,45 @@ any_whole q separator s = by_separator (any is_separator s) refl
     by_separator true seen = any_parts q separator (prefix_part s) (data_part s) ∙ ap (any q) (sym (whole_string s seen))
     by_separator false none = ap₂ (λ (p d : List ℕ). any q p || any q d) (no_prefix s none) (no_separator s none)
 
--- where the separator was found, and what it says
-found_at : (s : List ℕ) (o : Option ℕ) → o ≡ separator_of s → (at : ℕ) → o ≡ Some at → (separator_missing s ≡ false) × (at ≡ length (prefix_part s))
-found_at s o is at found = by_separator (separator_missing s) refl (sym is ∙ found)
-  where
-    by_separator : (missing : Bool) → separator_missing s ≡ missing → pick missing None (Some (length (prefix_part s))) ≡ Some at
-        → (separator_missing s ≡ false) × (at ≡ length (prefix_part s))
-    by_separator true missing e = cc
-    by_separator false present e = (present, cc)
+-- rules 1 to 3 do not apply: p is the prefix, and the separator stands at this place
+pub record Separated (s p : List ℕ) (at : ℕ) : Type 0 where
+  pub inside : character_outside s ≡ false
+  pub one_case : mixed_case s ≡ false
+  pub present : separator_missing s ≡ false
+  pub prefix : p ≡ prefix_part s
+  pub place : at ≡ length (prefix_part s)
 
-found_nowhere : (s : List ℕ) (o : Option ℕ) → o ≡ separator_of s → o ≡ None → separator_missing s ≡ true
-found_nowhere s o is lost = by_separator (separator_missing s) refl (sym is ∙ lost)
-  where
-    by_separator : (missing : Bool) → separator_missing s ≡ missing → pick missing None (Some (length (prefix_part s))) ≡ None → separator_missing s ≡ true
-    by_separator true missing e = missing
-    by_separator false present e = cc
+-- what the separator's place says
+module _ (s : List ℕ) (o : Option ℕ) (is : o ≡ separator_of s) where
+  found_at : (at : ℕ) → o ≡ Some at → (separator_missing s ≡ false) × (at ≡ length (prefix_part s))
+  found_at at found = by_separator (separator_missing s) refl (sym is ∙ found)
+    where
+      by_separator : (missing : Bool) → separator_missing s ≡ missing → pick missing None (Some (length (prefix_part s))) ≡ Some at
+          → (separator_missing s ≡ false) × (at ≡ length (prefix_part s))
+      by_separator true missing e = cc
+      by_separator false present e = (present, cc)
 
-pub separator_inside : (s : List ℕ) (o : Option ℕ) → o ≡ separator_of s → (at : ℕ) → o ≡ Some at → at + 1 ≤ length s
-separator_inside s o is at found = let e = found_at s o is at found in omega (arith, e.1, own_length s e.0)
+  found_nowhere : o ≡ None → separator_missing s ≡ true
+  found_nowhere lost = by_separator (separator_missing s) refl (sym is ∙ lost)
+    where
+      by_separator : (missing : Bool) → separator_missing s ≡ missing → pick missing None (Some (length (prefix_part s))) ≡ None → separator_missing s ≡ true
+      by_separator true missing e = missing
+      by_separator false present e = cc
+
+  pub separator_inside : (at : ℕ) → o ≡ Some at → at + 1 ≤ length s
+  separator_inside at found = let e = found_at at found in omega (arith, e.1, own_length s e.0)
+
+  -- what stands before it
+  before_it : take (unwrap_or o 0) s ≡ prefix_part s
+  before_it = ap (λ (p : Option ℕ). take (unwrap_or p 0) s) is ∙ by_separator (separator_missing s) refl
+    where
+      by_separator : (missing : Bool) → separator_missing s ≡ missing → take (unwrap_or (pick missing None (Some (length (prefix_part s)))) 0) s ≡ prefix_part s
+      by_separator true missing = sym (no_prefix s (unseen s missing))
+      by_separator false present = own_front s present
 
 pub prefix_inside : (s : List ℕ) (o : Option ℕ) → o ≡ separator_of s → unwrap_or o 0 ≤ length s
 prefix_inside s None is = omega arith
 prefix_inside s (Some at) is = omega (arith, separator_inside s (Some at) is at refl)
-
--- what stands before it
-before_it : (s : List ℕ) (o : Option ℕ) → o ≡ separator_of s → take (unwrap_or o 0) s ≡ prefix_part s
-before_it s o is = ap (λ (p : Option ℕ). take (unwrap_or p 0) s) is ∙ by_separator (separator_missing s) refl
-  where
-    by_separator : (missing : Bool) → separator_missing s ≡ missing → take (unwrap_or (pick missing None (Some (length (prefix_part s)))) 0) s ≡ prefix_part s
-    by_separator true missing = sym (no_prefix s (unseen s missing))
-    by_separator false present = own_front s present
 
 -- ---- the rules in their order, by what the code asks of the scans
 
@@ -95,14 +104,15 @@ module _ (s : List ℕ) (t : Tail) (scanned : DataScanned s t) where
   outside_1 e = rw (outside_asked e)
 
   module _ (inside : outside_in t.classes ≡ false) (end : ℕ) (before : end ≡ unwrap_or t.separator 0) (classes : ℕ) (joined : Joined classes (take end s)) where
-    -- the prefix that is looked at is the string's own
     prefix_is : take end s ≡ prefix_part s
     prefix_is = ap (λ (n : ℕ). take n s) before ∙ before_it s t.separator scanned.separator
 
     cases_asked : {b : Bool} → both_cases_in (bit_or classes t.classes) ≡ b → mixed_case s ≡ b
     unfolding mixed_case
     cases_asked e =
-        sym (joined_cases classes t.classes (take end s) (data_part s) joined scanned.joined ∙ ap₂ (λ (x y : Bool). x && y) (one_case is_upper refl) (one_case is_lower refl))
+        sym
+        (joined_cases classes t.classes (take end s) (data_part s) joined scanned.joined
+        ∙ ap₂ (λ (x y : Bool). x && y) (one_case is_upper refl) (one_case is_lower refl))
         ∙ e
       where
         one_case : (q : ℕ → Bool) → q 49 ≡ false → any q (take end s) || any q (data_part s) ≡ any q s
@@ -117,41 +127,39 @@ module _ (s : List ℕ) (t : Tail) (scanned : DataScanned s t) where
       unfolding split_verdict
       no_separator_3 e = rw (outside_asked inside, cases_asked one, found_nowhere s t.separator scanned.separator e)
 
-      module _ (at : ℕ) (found : t.separator ≡ Some at) where
-        present : separator_missing s ≡ false
-        present = (found_at s t.separator scanned.separator at found).0
+      pub passed_3 : (at : ℕ) → t.separator ≡ Some at → Separated s (take end s) at
+      passed_3 at found =
+          let e = found_at s t.separator scanned.separator at found in
+          record { inside = outside_asked inside; one_case = cases_asked one; present = e.0; prefix = prefix_is; place = e.1 }
 
-        at_is : at ≡ length (prefix_part s)
-        at_is = (found_at s t.separator scanned.separator at found).1
+module _ (s p : List ℕ) (at : ℕ) (past : Separated s p at) where
+  pub empty_4 : length p ≡ 0 → WasSplit s (Err PrefixEmpty)
+  unfolding split_verdict prefix_empty
+  empty_4 e = rw (past.inside, past.one_case, past.present, ← past.prefix, eq-eqb (length p) 0 e)
 
-        pub empty_4 : length (take end s) ≡ 0 → WasSplit s (Err PrefixEmpty)
-        unfolding split_verdict prefix_empty
-        empty_4 e = rw (outside_asked inside, cases_asked one, present, ← prefix_is, eq-eqb (length (take end s)) 0 e)
+  module _ (some : length p ≡ 0 → ⊥) where
+    pub long_5 : 83 < length p → WasSplit s (Err PrefixLong)
+    unfolding split_verdict prefix_empty prefix_long
+    long_5 h = rw (past.inside, past.one_case, past.present, ← past.prefix, ne_eqb (length p) 0 some, lt-ltb 83 (length p) h)
 
-        module _ (some : length (take end s) ≡ 0 → ⊥) where
-          pub long_5 : 83 < length (take end s) → WasSplit s (Err PrefixLong)
-          unfolding split_verdict prefix_empty prefix_long
-          long_5 h = rw (outside_asked inside, cases_asked one, present, ← prefix_is, ne_eqb (length (take end s)) 0 some, lt-ltb 83 (length (take end s)) h)
+    module _ (short : length p ≤ 83) (printable : Bool) (told : printable ≡ all is_printable p) where
+      pub byte_6 : printable ≡ false → WasSplit s (Err PrefixByte)
+      unfolding split_verdict prefix_empty prefix_long prefix_byte_outside
+      byte_6 e = rw (past.inside, past.one_case, past.present, ← past.prefix, ne_eqb (length p) 0 some, le-ltb 83 (length p) short, ← told, e)
 
-          module _ (short : length (take end s) ≤ 83) (printable : Bool) (told : printable ≡ all is_printable (take end s)) where
-            pub byte_6 : printable ≡ false → WasSplit s (Err PrefixByte)
-            unfolding split_verdict prefix_empty prefix_long prefix_byte_outside
-            byte_6 e =
-                rw (outside_asked inside, cases_asked one, present, ← prefix_is, ne_eqb (length (take end s)) 0 some, le-ltb 83 (length (take end s)) short, ← told, e)
+      none_applies : printable ≡ true → NoneApplies (string_rules s)
+      unfolding prefix_empty prefix_long prefix_byte_outside
+      none_applies e =
+          rw (← past.prefix, ← told, e)
+          (past.inside, (past.one_case, (past.present, (ne_eqb (length p) 0 some, (le-ltb 83 (length p) short, (refl, tt))))))
 
-            none_applies : printable ≡ true → NoneApplies (string_rules s)
-            unfolding prefix_empty prefix_long prefix_byte_outside
-            none_applies e =
-                rw (← prefix_is, ← told, e)
-                (outside_asked inside, (cases_asked one, (present, (ne_eqb (length (take end s)) 0 some, (le-ltb 83 (length (take end s)) short, (refl, tt))))))
-
-            pub taken_apart : printable ≡ true → (lent : Place) (h : Halves) → h.prefix.now ≡ take end s → h.characters.now ≡ take (length s - (at + 1)) (drop (at + 1) s)
-                → h.prefix.ref_ptr ≡ lent → h.characters.ref_ptr ≡ further lent (at + 1) → Halved (string_rules s) lent s (data_part s) h
-            taken_apart e lent h before after there further_on =
-                record {
-                  accepted = none_applies e;
-                  prefix = before ∙ prefix_is;
-                  characters = after ∙ rw at_is (own_rest s present);
-                  prefix_there = there;
-                  characters_there = further_on ∙ ap (λ (n : ℕ). further lent (n + 1)) at_is;
-                }
+      pub taken_apart : printable ≡ true → (lent : Place) (h : Halves) → h.prefix.now ≡ p → h.characters.now ≡ take (length s - (at + 1)) (drop (at + 1) s)
+          → h.prefix.ref_ptr ≡ lent → h.characters.ref_ptr ≡ further lent (at + 1) → Halved (string_rules s) lent s (data_part s) h
+      taken_apart e lent h front rest there further_on =
+          record {
+            accepted = none_applies e;
+            prefix = front ∙ past.prefix;
+            characters = rest ∙ rw past.place (own_rest s past.present);
+            prefix_there = there;
+            characters_there = further_on ∙ ap (λ (n : ℕ). further lent (n + 1)) past.place;
+          }

@@ -1,19 +1,17 @@
 -- What the private functions of reading ask, each of the part that it is given: the rules that answers' Reading asks of the whole string.
-use Rattle.std.specs.Prelude.{not, List, [], ◌∷◌, map, ℕ, ◌-◌, eqb, ltb, length, take, drop, get_or}
+use Rattle.std.specs.Prelude.{not, List, [], ◌∷◌, map, ℕ, ◌-◌, eqb, ltb, length, take, drop, get_or, Result, Ok, Err, ⊤}
 use Rattle.paper.specs.Charset.{symbol}
 use Rattle.paper.specs.Checksum.{residue}
 use Rattle.paper.specs.Bits.{to_bytes}
 use Rattle.checksum.specs.Parameters.{constant_for, checksum_for}
 use Rattle.answers.specs.Order.{Rule, ◌gives◌, first_of}
 use Rattle.answers.specs.Rules.{version_unknown, padding_verdict, length_verdict}
-use Rattle.answers.specs.Reading.{string_rules, longer_than}
+use Rattle.answers.specs.Reading.{string_rules, longer_than, as_address}
 use Rattle.decode.specs.Splitting.{parts_of}
 use Rattle.numbers.specs.declared.Refusal.{Refusal}
 use Rattle.numbers.specs.declared.Refusal.TheVariants.{DataShort, ChecksumWrong, AddressLong, NoData, VersionUnknown}
 use Rattle.answers.specs.declared.Parts.{Parts}
 use Rattle.answers.specs.declared.Address.{Address}
-use Rattle.answers.specs.Reading.{as_address}
-use Rattle.std.specs.Prelude.{Result, Ok, Err, ⊤}
 
 -- what is asked next where nothing was refused, as `?` does it
 infixl 10 ◌>>=◌
@@ -22,8 +20,11 @@ Ok a >>= next = next a
 Err refusal >>= next = Err refusal
 
 -- 10, and then 1 to 6
+abbrev pub address_split_rules : List ℕ → List Rule
+address_split_rules s = longer_than 90 s gives AddressLong ∷ string_rules s
+
 unfoldable pub split_address : List ℕ → Result Parts Refusal
-split_address s = first_of (longer_than 90 s gives AddressLong ∷ string_rules s) (parts_of s)
+split_address s = first_of (address_split_rules s) (parts_of s)
 
 -- ---- of a prefix and of the characters after the separator
 

@@ -1,8 +1,7 @@
 -- Document 01, "Forms we want to read": a part of the caller's buffer, not a copy. A slice points into a block of memory, at an offset.
-use Rattle.std.specs.Prelude.{◌≡◌, List, ℕ, ◌+◌, ◌≤◌, length, take, drop}
+use Rattle.std.specs.Prelude.{◌≡◌, List, ℕ, ◌+◌, ◌≤◌, length, take, drop, Result, Ok, Err}
 use Rattle.numbers.specs.declared.Refusal.{Refusal}
 use Rattle.answers.specs.declared.Parts.{Parts}
-use Rattle.std.specs.Prelude.{Result, Ok, Err}
 
 abbrev pub Place : Type 0
 Place = ℕ × ℕ

@@ -1,5 +1,5 @@
 -- What each public function promises, and that two answers which keep the promise are equal.
-use Rattle.std.specs.Prelude.{◌≡◌, List, ℕ, ◌+◌, length}
+use Rattle.std.specs.Prelude.{◌≡◌, List, ℕ, ◌+◌, length, Result}
 use Rattle.laws.proofs.Bools.{same}
 use Rattle.paper.specs.Bits.{to_bytes}
 use Rattle.answers.specs.Reading.{prefix_part, payload, payload_symbols, program_of, read_verdict, part_of, read_bytes_verdict, buffer_after, address_verdict, read_address_verdict, program_after}
@@ -11,7 +11,6 @@ use Rattle.decode.specs.Splitting.{split_verdict}
 use Rattle.numbers.specs.declared.Refusal.{Refusal}
 use Rattle.answers.specs.declared.Parts.{Parts}
 use Rattle.answers.specs.declared.Address.{Address}
-use Rattle.std.specs.Prelude.{Result}
 
 -- decode::read
 abbrev pub WasRead : Checksum → List ℕ → Result Parts Refusal → Type 0

@@ -1,10 +1,9 @@
 -- Document 01, "Order, generic reading", into a lent buffer of symbols: as into bytes, with the room that the symbols need.
-use Rattle.std.specs.Prelude.{List, [], ◌∷◌, ◌++◌, ℕ, length}
+use Rattle.std.specs.Prelude.{List, [], ◌∷◌, ◌++◌, ℕ, length, Result}
 use Rattle.answers.specs.Order.{Rule, ◌gives◌, first_of}
 use Rattle.answers.specs.Reading.{payload_symbols, reading_rules, room_small}
 use Rattle.numbers.specs.declared.Refusal.{Refusal}
 use Rattle.numbers.specs.declared.Refusal.TheVariants.{RoomSmall}
-use Rattle.std.specs.Prelude.{Result}
 
 abbrev pub reading_symbols_rules : ℕ → List ℕ → ℕ → List Rule
 reading_symbols_rules constant s room = reading_rules constant s ++ room_small room (payload_symbols s) gives RoomSmall ∷ []

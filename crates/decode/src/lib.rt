@@ -5,12 +5,10 @@
 mod scan;
 mod symbols;
 
-ghost use Rattle.std.specs.Prelude.{◌≡◌, ◌≤◌, ◌∷◌, length, MatchResult};
+ghost use Rattle.std.specs.Prelude.{◌≡◌, ◌≤◌, length, MatchResult};
 ghost use Rattle.checksum.specs.Parameters.{constant_for};
-ghost use Rattle.answers.specs.Reading.{string_rules, reading_rules, longer_than, data_part, payload};
-ghost use Rattle.answers.specs.Order.{◌gives◌};
-ghost use Rattle.numbers.specs.declared.Refusal.TheVariants.{AddressLong};
-ghost use Rattle.decode.specs.Asked.{split_address, version_given, sum_verdict, program_in, judgement};
+ghost use Rattle.answers.specs.Reading.{string_rules, reading_rules, data_part, payload};
+ghost use Rattle.decode.specs.Asked.{address_split_rules, split_address, version_given, sum_verdict, program_in, judgement};
 ghost use Rattle.decode.specs.Halves.{lengths_of, Halved};
 ghost use Rattle.decode.specs.Promises.{WasRead, DataPartGiven, PrefixPartGiven, SymbolsRead, BytesRead, AddressChecked, AddressRead, WasSplit};
 
@@ -69,6 +67,7 @@ pub fn prefix_part(checksum: Checksum, s: &[u8]) -> &[u8]
 }
 
 // Generic reading into symbols.
+#[tactic(auto, using(crate::proofs::Rooms::symbols_refused))]
 pub fn read_symbols(checksum: Checksum, s: &[u8], out: &mut [u8]) -> Result<usize, Refusal>
     ensures { SymbolsRead checksum s.now out.old result out.new }
 {
@@ -77,6 +76,7 @@ pub fn read_symbols(checksum: Checksum, s: &[u8], out: &mut [u8]) -> Result<usiz
 }
 
 // Generic reading into bytes; bits left over at the end are dropped unlooked.
+#[tactic(auto, using(crate::proofs::Rooms::bytes_refused))]
 pub fn read_bytes(checksum: Checksum, s: &[u8], out: &mut [u8]) -> Result<usize, Refusal>
     ensures { BytesRead checksum s.now out.old result out.new }
 {
@@ -85,6 +85,7 @@ pub fn read_bytes(checksum: Checksum, s: &[u8], out: &mut [u8]) -> Result<usize,
 }
 
 // Segwit reading with no buffer to write to: document 01's order, 10 and 1 to 6 and then what is asked of the parts.
+#[tactic(auto, using(crate::proofs::Segwit::address_split_refused))]
 pub fn check_address(s: &[u8]) -> Result<Address, Refusal>
     ensures { AddressChecked s.now result }
 {
@@ -93,6 +94,7 @@ pub fn check_address(s: &[u8]) -> Result<Address, Refusal>
 }
 
 // Segwit reading: the program, which starts after the version, goes into the lent buffer.
+#[tactic(auto, using(crate::proofs::Rooms::address_refused, crate::proofs::Segwit::address_split_refused, crate::proofs::Segwit::judged_enough))]
 pub fn read_address(s: &[u8], out: &mut [u8]) -> Result<Address, Refusal>
     ensures { AddressRead s.now out.old result out.new }
 {
@@ -102,7 +104,7 @@ pub fn read_address(s: &[u8], out: &mut [u8]) -> Result<Address, Refusal>
     Ok(address)
 }
 
-// Answers 1 to 6: characters and prefix. The checksum is not looked at.
+// How long the prefix and the data part are of a string that 1 to 6 accept. The checksum is not looked at.
 #[tactic(auto, using(crate::proofs::Halving::split_accepted))]
 pub fn split(s: &[u8]) -> Result<Parts, Refusal>
     ensures { WasSplit s.now result }
@@ -111,7 +113,7 @@ pub fn split(s: &[u8]) -> Result<Parts, Refusal>
     Ok(halves.lengths())
 }
 
-// Answers 1 to 6.
+// Answers 1 to 6: characters and prefix.
 fn take_apart(s: &[u8]) -> Result<Halves, Refusal>
     ensures { MatchResult result
         (λ halves. Halved (string_rules s.now) s.entry.ref_ptr s.now (data_part s.now) halves)
@@ -130,7 +132,7 @@ fn take_apart(s: &[u8]) -> Result<Halves, Refusal>
     let Some(separator) = tail.separator else {
         return Err(Refusal::NoSeparator);
     };
-    if prefix.len() == 0 {
+    if prefix.is_empty() {
         return Err(Refusal::PrefixEmpty);
     }
     if hrp::MAX_LENGTH < prefix.len() {
@@ -145,8 +147,8 @@ fn take_apart(s: &[u8]) -> Result<Halves, Refusal>
     })
 }
 
-// Answers 1 to 9. The checksum is taken off.
-#[tactic(auto, using(crate::proofs::Generic::read_long, crate::proofs::Asked::sum_enough))]
+// Answers 1 to 9: then the length, and the checksum, which is taken off.
+#[tactic(auto, using(crate::proofs::Asked::sum_enough))]
 fn read_halves(checksum: Checksum, s: &[u8]) -> Result<Halves, Refusal>
     ensures { MatchResult result
         (λ halves. Halved (reading_rules (constant_for checksum) s.now) s.entry.ref_ptr s.now (payload s.now) halves)
@@ -168,7 +170,7 @@ fn read_halves(checksum: Checksum, s: &[u8]) -> Result<Halves, Refusal>
 #[tactic(auto, using(crate::proofs::Segwit::halves_long))]
 fn address_halves(s: &[u8]) -> Result<Halves, Refusal>
     ensures { MatchResult result
-        (λ halves. Halved (longer_than 90 s.now gives AddressLong ∷ string_rules s.now) s.entry.ref_ptr s.now (data_part s.now) halves)
+        (λ halves. Halved (address_split_rules s.now) s.entry.ref_ptr s.now (data_part s.now) halves)
         (λ refusal. Err refusal ≡ split_address s.now) }
 {
     if segwit::MAX_STRING_LENGTH < s.len() {

@@ -16,7 +16,9 @@ pub(crate) struct Tail {
     pub(crate) classes: u8,
 }
 
-// From the end, in one pass.
+// From the end, in one pass. In a caller's body the loop would carry a counter for each number that is computed from the place.
+#[inline(never)]
+#[tactic(auto, using(crate::proofs::Scanning::none_begun))]
 pub(crate) fn scan_data(table: &Classes, s: &[u8]) -> Tail
     ensures { DataScanned s.now result }
 {
@@ -37,6 +39,7 @@ pub(crate) fn scan_data(table: &Classes, s: &[u8]) -> Tail
 }
 
 // The classes of all bytes, joined.
+#[tactic(auto, using(crate::proofs::Scanning::begun))]
 pub(crate) fn joined(table: &Classes, bytes: &[u8]) -> u8
     ensures { Joined result bytes.now }
 {

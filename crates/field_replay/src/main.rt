@@ -4,85 +4,48 @@
 
 ghost use Rattle.std.specs.Prelude.{◌<◌, ◌≤◌};
 
-use fieldvec::{Changed, Element, FieldVec};
-use gf32_ext::{FIELD_ORDER, Quotient, ROOT_GENERATOR};
-use polynomial::{Exponent, Root};
+use fieldvec::FieldVec;
+use gf32_ext::{FIELD_ORDER, ROOT_GENERATOR};
+use numbers::Refusal;
+use std::fmt;
 
 fn main(rt: HostRuntime) {
-    fields(&rt);
-    polynomials(&rt);
-}
-
-fn fields(rt: &impl Print) {
-    let mut k = 0u32;
-    while k < 1023 {
-        field_line(rt, k * 61 % FIELD_ORDER, k + 1);
-        k += 1;
+    for k in 0..1023 {
+        field_line(&rt, k * 61 % FIELD_ORDER, k + 1);
+    }
+    for t in 0..140 {
+        polynomial_line(&rt, t);
     }
 }
 
 fn field_line(rt: &impl Print, x: u32, y: u32) {
-    letter(rt, b'm');
-    number(rt, x as u64);
-    number(rt, y as u64);
-    number(rt, gf32_ext::multiply(x, y) as u64);
-    letter(rt, b'i');
-    quotient(rt, gf32_ext::inverse(y));
-    end_line(rt);
-}
-
-fn polynomials(rt: &impl Print) {
-    let mut t = 0u32;
-    while t < 140 {
-        polynomial_line(rt, t);
-        t += 1;
-    }
+    let product = gf32_ext::multiply(x, y);
+    let inverse = Answer(gf32_ext::inverse(y));
+    let _ = println!(rt; " m {x} {y} {product} i {inverse}");
 }
 
 fn polynomial_line(rt: &impl Print, t: u32)
     requires { t < 140 }
 {
-    let residue = t * 26843545 % 1073741824;
     let p = polynomial_of(t, t % 7 + 1);
     let q = polynomial_of(t + 300, t / 7 % 7 + 1);
-    letter(rt, b'p');
-    list(rt, p);
-    list(rt, q);
-    letter(rt, b'd');
-    exponent(rt, polynomial::degree(p));
-    letter(rt, b'l');
-    element(rt, polynomial::leading_term(p));
-    letter(rt, b'v');
-    element(rt, polynomial::evaluate(p, (t * 53 + 9) % FIELD_ORDER));
-    letter(rt, b'f');
-    changed(rt, polynomial::formal_derivative(p));
-    letter(rt, b'm');
-    changed(rt, polynomial::multiply_mod_x_d(p, q, (t % 11) as usize));
-    letter(rt, b'c');
-    changed(rt, polynomial::convolution(p, q));
-    letter(rt, b's');
-    list(rt, polynomial::from_residue(residue));
-    letter(rt, b'r');
-    roots(rt, p);
-    end_line(rt);
-}
-
-fn roots(rt: &impl Print, p: FieldVec) {
-    let mut k = 0;
-    while k < 1023 {
-        let found = polynomial::first_root(p, ROOT_GENERATOR, k);
-        let Root::At(e) = found else {
-            return;
-        };
-        if e < k {
-            return;
-        }
-        if 1022 < e {
-            return;
-        }
-        number(rt, e as u64);
-        k = e + 1;
-    }
+    let degree = Answer(polynomial::degree(&p));
+    let leading_term = Answer(polynomial::leading_term(&p));
+    let value = Answer(polynomial::evaluate(&p, (t * 53 + 9) % FIELD_ORDER));
+    let derivative = Answer(polynomial::formal_derivative(&p).map(Listed));
+    let product = Answer(polynomial::multiply_mod_x_d(&p, &q, (t % 11) as usize).map(Listed));
+    let convolution = Answer(polynomial::convolution(&p, &q).map(Listed));
+    let residue = Listed(polynomial::from_residue(t * 26843545 % 1073741824));
+    let roots = Roots(p);
+    let _ = print!(rt;
+        " p {} {} d {degree} l {leading_term}",
+        Listed(p),
+        Listed(q)
+    );
+    let _ = print!(rt;
+        " v {value} f {derivative} m {product} c {convolution} s {residue} r{roots}"
+    );
+    let _ = println!(rt; "");
 }
 
 // ---- the inputs
@@ -91,11 +54,8 @@ fn polynomial_of(t: u32, n: u32) -> FieldVec
     requires { (t < 440) × (n ≤ 7) }
 {
     let mut coefficients = FieldVec::new();
-    let mut i = 0;
-    while i < n {
-        let longer = coefficients.push(coefficient(t, i));
-        coefficients = longer.list;
-        i += 1;
+    for i in 0..n {
+        let _ = coefficients.push(coefficient(t, i));
     }
     coefficients
 }
@@ -111,61 +71,44 @@ fn coefficient(t: u32, i: u32) -> u32
 
 // ---- the answers
 
-fn changed(rt: &impl Print, answer: Changed) {
-    let n = answer.number;
-    if n != 0 {
-        refused(rt, n);
-        return;
-    }
-    let made = answer.list;
-    list(rt, made);
-}
+// What is given, or the refusal's number after an x.
+#[derive(Drop)]
+struct Answer<T>(Result<T, Refusal>);
 
-fn element(rt: &impl Print, answer: Element) {
-    match answer {
-        Element::Value(x) => number(rt, x as u64),
-        Element::Refused(n) => refused(rt, n),
+impl<T: fmt::Display> fmt::Display for Answer<T> {
+    fn fmt<W: fmt::Write>(&self, f: &mut fmt::Formatter<W>) -> fmt::Result {
+        match &self.0 {
+            Ok(given) => write!(f, "{given}"),
+            Err(refusal) => write!(f, "x {}", u8::from(*refusal)),
+        }
     }
-}
-
-fn quotient(rt: &impl Print, answer: Quotient) {
-    match answer {
-        Quotient::Value(x) => number(rt, x as u64),
-        Quotient::Refused(n) => refused(rt, n),
-    }
-}
-
-fn exponent(rt: &impl Print, answer: Exponent) {
-    match answer {
-        Exponent::Value(x) => number(rt, x as u64),
-        Exponent::Refused(n) => refused(rt, n),
-    }
-}
-
-fn refused(rt: &impl Print, n: u8) {
-    letter(rt, b'x');
-    number(rt, n as u64);
 }
 
 // How many elements, and the elements.
-fn list(rt: &impl Print, elements: FieldVec) {
-    let n = elements.len;
-    number(rt, n as u64);
-    let mut i = 0;
-    while i < n {
-        element(rt, elements.get(i));
-        i += 1;
+#[derive(Clone, Copy)]
+struct Listed(FieldVec);
+
+impl fmt::Display for Listed {
+    fn fmt<W: fmt::Write>(&self, f: &mut fmt::Formatter<W>) -> fmt::Result {
+        write!(f, "{}", self.0.len)?;
+        for i in 0..self.0.len {
+            write!(f, " {}", Answer(self.0.get(i)))?;
+        }
+        Ok(())
     }
 }
 
-fn number(rt: &impl Print, n: u64) {
-    let _ = print!(rt; " {n}");
-}
+// The exponents of the generator's powers that are roots.
+#[derive(Clone, Copy)]
+struct Roots(FieldVec);
 
-fn letter(rt: &impl Print, c: u8) {
-    let _ = rt.write_all(&[b' ', c]);
-}
-
-fn end_line(rt: &impl Print) {
-    let _ = rt.write_all(b"\n");
+impl fmt::Display for Roots {
+    fn fmt<W: fmt::Write>(&self, f: &mut fmt::Formatter<W>) -> fmt::Result {
+        let mut from = 0;
+        while let Ok(Some(e)) = polynomial::first_root(&self.0, ROOT_GENERATOR, from) {
+            write!(f, " {e}")?;
+            from = e + 1;
+        }
+        Ok(())
+    }
 }

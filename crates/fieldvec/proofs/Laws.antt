@@ -2,17 +2,18 @@
 use mathlib.Core.Path.{◌≡◌, refl, sym, ap, ◌∙◌}
 use mathlib.Core.Bool.{Bool, true, false, ◌&&◌}
 use mathlib.Core.List.{List, [], ◌∷◌, ◌++◌, reverse}
-use Prim.Native.Nat.{ℕ, zero, suc, ◌+◌, ◌-◌, ◌%◌, ◌<◌, ◌≤◌}
+use Prim.Native.Nat.{ℕ, suc, ◌+◌, ◌-◌, ◌%◌, ◌<◌, ◌≤◌}
 use native.Mathlib.Nat.{le_refl}
 use native.Mathlib.Numerals.{add-one}
 use native.Mathlib.Omega.{arith}
 use borrow.Author.Tests.{lt-leb, le-leb, lt-ltb, eq-eqb, ne_eqb, le-ltb, ltb-true, ltb-false}
 use lib.Dec.{eqb, ltb, eqb→eq}
 use lib.ListN.{length, take, drop, get_or, set, length-append}
-use Rattle.std.proofs.lemmas.List.{get_or-take}
-use lib.Seq.{length-take-le, take-nil, take-set-le, take-suc-set, take-append_seam, get_or-append_seam}
+use Rattle.std.proofs.lemmas.List.{get_or-take, length-take}
+use lib.Seq.{length-take-le, take-set-le, take-suc-set, take-append_seam, get_or-append_seam}
 use Rattle.std.specs.Prelude.{⊤, Result, Ok, Err}
 use Rattle.std.specs.List.{list_all, zip}
+use denote.Ref.{Bor}
 use Rattle.laws.specs.Pick.{pick}
 use Rattle.laws.proofs.Bools.{and_false}
 use Rattle.laws.specs.Lists.{table}
@@ -22,39 +23,43 @@ use Rattle.gf32_ext.specs.Field.{power}
 use Rattle.fieldvec.specs.declared.FieldVec.{FieldVec}
 use Rattle.fieldvec.specs.Lists.{elements, listed, given, left, shown, pushed, popped_back, popped_front, got, reversed, compared, alike, pointwise, multiplied_pointwise, powers_given}
 use Rattle.fieldvec.specs.Promises.{Changes}
+use Rattle.numbers.proofs.Numbers.{ok_injective}
 
 -- ---- the list that is shown, or refused
 
 module _ (t : FieldVec) where
-  pub shown_ok : {l : List ℕ} → Ok l ≡ shown t → (t.len ≤ 7) × (l ≡ elements t)
+  pub shown_ok : (place : ℕ × ℕ) {s : Bor (List ℕ)} → Ok s ≡ shown t place → (t.len ≤ 7) × (s.now ≡ elements t)
   unfolding shown
-  shown_ok {l} e = by (ltb 7 t.len) refl e
+  shown_ok place {s} e = by (ltb 7 t.len) refl e
     where
-      by : (b : Bool) → ltb 7 t.len ≡ b → Ok l ≡ pick b (Err ListPlace) (Ok (elements t)) → (t.len ≤ 7) × (l ≡ elements t)
+      by : (b : Bool) → ltb 7 t.len ≡ b → Ok s ≡ pick {A = Result (Bor (List ℕ)) Refusal} b (Err ListPlace) (Ok (record { ref_ptr = place; now = elements t })) → (t.len ≤ 7) × (s.now ≡ elements t)
       by true s e = cc
-      by false s e = (ltb-false 7 t.len s, cc)
+      by false s e = (ltb-false 7 t.len s, ap (λ r. r.now) (ok_injective _ _ e))
 
-  pub shown_err : {refusal : Refusal} → Err refusal ≡ shown t → (7 < t.len) × (refusal ≡ ListPlace)
+  pub shown_err : (place : ℕ × ℕ) {refusal : Refusal} → Err refusal ≡ shown t place → (7 < t.len) × (refusal ≡ ListPlace)
   unfolding shown
-  shown_err {refusal} e = by (ltb 7 t.len) refl e
+  shown_err place {refusal} e = by (ltb 7 t.len) refl e
     where
-      by : (b : Bool) → ltb 7 t.len ≡ b → Err refusal ≡ pick b (Err ListPlace) (Ok (elements t)) → (7 < t.len) × (refusal ≡ ListPlace)
+      by : (b : Bool) → ltb 7 t.len ≡ b → Err refusal ≡ pick {A = Result (Bor (List ℕ)) Refusal} b (Err ListPlace) (Ok (record { ref_ptr = place; now = elements t })) → (7 < t.len) × (refusal ≡ ListPlace)
       by true s e = (ltb-true 7 t.len s, cc)
       by false s e = cc
 
-  pub shown_whole : t.len ≤ 7 → shown t ≡ Ok (elements t)
-  unfolding shown
-  shown_whole h = rw (le-ltb 7 t.len h)
-
   -- what the exit of a `?` on the elements returns
-  pub exit : {A : Type 0} (r : Result A Refusal) {refusal : Refusal} → (y : Refusal) × (r ≡ Err y) × (y ≡ refusal) → Err refusal ≡ shown t
-      → (7 < t.len) × (r ≡ Err ListPlace)
-  exit r p e = ((shown_err e).0, p.1 ∙ ap Err (p.2 ∙ (shown_err e).1))
+  pub exit : {A : Type 0} (place : ℕ × ℕ) (r : Result A Refusal) {refusal : Refusal} → (y : Refusal) × (r ≡ Err y) × (y ≡ refusal)
+      → Err refusal ≡ shown t place → (7 < t.len) × (r ≡ Err ListPlace)
+  exit place r p e = ((shown_err place e).0, p.1 ∙ ap Err (p.2 ∙ (shown_err place e).1))
 
   module _ {A : Type 0} {answer : Result (A × FieldVec) Refusal} where
     -- a refusal leaves the list as it was
     pub refuses : {r : Result A Refusal} {refusal : Refusal} → r ≡ Err refusal → answer ≡ Err refusal → Changes t answer r t
     refuses e f = record { result = e ∙ sym (ap given f); list = sym (ap (left t) f) }
+
+    -- an answer that is accepted is not refused, and leaves what it gives
+    pub accepts : {made : A × FieldVec} {refusal : Refusal} → answer ≡ Ok made → Err refusal ≡ given answer → ⊥
+    accepts f e = cc (e, ap given f)
+
+    pub left_made : {made : A × FieldVec} {u : FieldVec} → answer ≡ Ok made → u ≡ left t answer → u ≡ made.1
+    left_made f e = e ∙ ap (left t) f
 
     pub changes : {value : A} {u : FieldVec} → answer ≡ Ok (value, u) → Changes t answer (Ok value) u
     changes f = record { result = sym (ap given f); list = sym (ap (left t) f) }
@@ -97,6 +102,9 @@ module _ (t : FieldVec) (outside : 7 < t.len) where
   pub compared_outside : (u : FieldVec) → compared t u ≡ Err ListPlace
   unfolding compared
   compared_outside u = rw (lt-ltb 7 t.len outside)
+
+pub elements_short : (t : FieldVec) → t.len ≤ 7 → length (elements t) ≤ 7
+elements_short t whole = omega (arith, length-take t.len t.items)
 
 module _ (t : FieldVec) (seven : length t.items ≡ 7) (whole : t.len ≤ 7) where
   pub elements_length : length (elements t) ≡ t.len
@@ -189,21 +197,6 @@ pub elements_popped : (t : FieldVec) → 0 < t.len → t.len ≤ 7 → elements 
 unfolding popped_back
 elements_popped t h k =
     rw (ne_eqb t.len 0 (λ e. absurd (omega arith)), le-ltb 7 t.len k) (take-set-le (t.len - 1) t.items (t.len - 1) 0 (le_refl (t.len - 1)))
-
--- ---- the first n of seven
-
-module _ (n : ℕ) (l : List ℕ) (seven : length l ≡ 7) (h : n ≤ 7) where
-  pub prefix_length : n ≡ length (take n l)
-  prefix_length = sym (length-take-le n l (omega arith))
-
-  pub prefix_short : length (take n l) ≤ 7
-  prefix_short = omega (arith, prefix_length)
-
--- a list without its first element, as the slice of it that the code takes
-pub part_after : (n : ℕ) (l : List ℕ) → 0 < n → take (n - 1) (drop 1 l) ≡ drop 1 (take n l)
-part_after zero l h = absurd (omega arith)
-part_after (suc n) [] h = take-nil (suc n - 1)
-part_after (suc n) (x ∷ l) h = let e : suc n - 1 ≡ n = omega arith in ap (λ (k : ℕ). take k l) e
 
 -- ---- where nothing is refused
 

@@ -25,15 +25,12 @@ Emptied r = r ≡ listed []
 pub emptied_once : (r s : FieldVec) → Emptied r → Emptied s → r ≡ s
 emptied_once r s p q = same p q
 
--- fieldvec::FieldVec::elements, by the numbers that the slice has
-abbrev pub numbers_of : Result (Bor (List ℕ)) Refusal → Result (List ℕ) Refusal
-numbers_of r = result_map_both (λ s. s.now) (λ refusal. refusal) r
+-- fieldvec::FieldVec::elements: the slice begins where the list lies
+abbrev pub Shown : FieldVec → ℕ × ℕ → Result (Bor (List ℕ)) Refusal → Type 0
+Shown t place r = r ≡ shown t place
 
-abbrev pub Shown : FieldVec → Result (Bor (List ℕ)) Refusal → Type 0
-Shown t r = numbers_of r ≡ shown t
-
-pub shown_once : (t : FieldVec) (r s : Result (Bor (List ℕ)) Refusal) → Shown t r → Shown t s → numbers_of r ≡ numbers_of s
-shown_once t r s p q = same p q
+pub shown_once : (t : FieldVec) (place : ℕ × ℕ) (r s : Result (Bor (List ℕ)) Refusal) → Shown t place r → Shown t place s → r ≡ s
+shown_once t place r s p q = same p q
 
 -- fieldvec::FieldVec::push
 abbrev pub Pushed : FieldVec → ℕ → Result ⊤ Refusal → FieldVec → Type 0

@@ -33,9 +33,9 @@ impl FieldVec {
         }
     }
 
-    // The stored numbers.
+    // The stored numbers, where they lie.
     pub fn elements(&self) -> Result<&[u16], Refusal>
-        ensures { Shown self.now result }
+        ensures { Shown self.now self.entry.ref_ptr result }
     {
         if CAPACITY < self.len {
             return Err(Refusal::ListPlace);

@@ -2,7 +2,7 @@
 -- The leftover bits, where they are fewer than five, are the low bits of the last symbol.
 use mathlib.Core.Path.{◌≡◌, refl, sym, ap, ◌∙◌}
 use mathlib.Core.Bool.{Bool, not, ◌||◌}
-use mathlib.Core.List.{List, [], ◌∷◌, append-nil}
+use mathlib.Core.List.{List, [], ◌∷◌, map, append-nil}
 use Prim.Native.Nat.{ℕ, zero, suc, ◌+◌, ◌-◌, ◌*◌, ◌/◌, ◌%◌, ◌^◌, ◌≤◌, ◌<◌}
 use native.Mathlib.Nat.{zero-add, zero-mul, one-mul, suc-mul, mod-one, mul-add-mod_self_right}
 use native.Mathlib.Omega.{arith}
@@ -18,8 +18,9 @@ use Rattle.iter.proofs.Bits.{mod_digit, bits_of_length, bits_of_add, bits_of_mod
 use Rattle.iter.proofs.Lengths.{padding_length}
 use Rattle.iter.proofs.Round.{none_left, is_set}
 use Rattle.numbers.specs.declared.Refusal.TheVariants.{PaddingLong, PaddingNotZero}
-use Rattle.std.specs.Prelude.{Ok, Err, None, slice_get}
-use Rattle.std.proofs.lemmas.Option.{slice_get-get_or}
+use Rattle.std.specs.Prelude.{Ok, Err, Some, None, slice_get}
+use Rattle.std.specs.Option.{option_map}
+use Rattle.std.proofs.lemmas.Option.{slice_get-get_or, slice_get-map, get_or_from_slice_get}
 
 -- some bit is set exactly if the number is not zero
 any_bit : (k v : ℕ) → any is_set (bits_of k v) ≡ not (eqb (v % 2 ^ k) 0)
@@ -95,6 +96,14 @@ low_bits_of_last symbols (suc n) last all same few =
 pub none_last : (list : List ℕ) → slice_get list (length list - 1) ≡ None → length list ≡ 0
 none_last [] e = refl
 none_last (x ∷ list) e = let some = slice_get-get_or (x ∷ list) (length (x ∷ list) - 1) 0 (omega arith) in cc
+
+-- the last number counts as the last symbol that is read
+pub last_symbol : (read : ℕ → ℕ) (list : List ℕ) (v r : ℕ) → slice_get list (length list - 1) ≡ Some v → r ≡ read v
+    → get_or (map read list) (length list - 1) 0 % 32 ≡ r % 32
+last_symbol read list v r e told = ap (λ (x : ℕ). x % 32) (get_or_from_slice_get (map read list) (length list - 1) (read v) 0 there ∙ sym told)
+  where
+    there : slice_get (map read list) (length list - 1) ≡ Some (read v)
+    there = slice_get-map read list (length list - 1) ∙ ap (option_map read) e
 
 pub padding_none : (symbols : List ℕ) → length symbols ≡ 0 → Ok tt ≡ padding_verdict symbols
 unfolding padding_verdict padding_long padding_not_zero

@@ -19,12 +19,14 @@ use Rattle.iter.specs.Promises.{SymbolGiven, ByteGiven}
 use Rattle.iter.proofs.Answers.{at_end, at_value}
 
 -- of what is left of a list a step gives the head, and leaves the others
-head_given : (list : List ℕ) (at : ℕ)
-    → MatchOption (slice_get list at) ((drop at list ≡ []) × (drop (place_after list at) list ≡ [])) (λ v. drop at list ≡ v ∷ drop (place_after list at) list)
+abbrev HeadGiven : List ℕ → ℕ → Option ℕ → Type 0
+HeadGiven list at r =
+    MatchOption r ((drop at list ≡ []) × (drop (place_after list at) list ≡ [])) (λ v. drop at list ≡ v ∷ drop (place_after list at) list)
+
+head_given : (list : List ℕ) (at : ℕ) → HeadGiven list at (slice_get list at)
 head_given list at = go (leb (length list) at) refl
   where
-    go : (b : Bool) → leb (length list) at ≡ b
-        → MatchOption (slice_get list at) ((drop at list ≡ []) × (drop (place_after list at) list ≡ [])) (λ v. drop at list ≡ v ∷ drop (place_after list at) list)
+    go : (b : Bool) → leb (length list) at ≡ b → HeadGiven list at (slice_get list at)
     go true e =
         let h = leb-true (length list) at e in
         let none = at_end list at (length list) refl h in
@@ -46,9 +48,7 @@ byte_yields walk after r p = rw (p.given, p.left) (head_given (to_bytes walk.sym
 one_step : (list : List ℕ) (n at : ℕ) → first_given (slice_get list at) (take n (drop (place_after list at) list)) ≡ take (suc n) (drop at list)
 one_step list n at = go (slice_get list at) (head_given list at)
   where
-    go : (r : Option ℕ)
-        → MatchOption r ((drop at list ≡ []) × (drop (place_after list at) list ≡ [])) (λ v. drop at list ≡ v ∷ drop (place_after list at) list)
-        → first_given r (take n (drop (place_after list at) list)) ≡ take (suc n) (drop at list)
+    go : (r : Option ℕ) → HeadGiven list at r → first_given r (take n (drop (place_after list at) list)) ≡ take (suc n) (drop at list)
     go None left = rw left.0 refl
     go (Some v) left = rw left refl
 

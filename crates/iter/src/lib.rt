@@ -90,6 +90,7 @@ impl<'a> BytesToSymbols<'a> {
         BytesToSymbols { bytes, at: 0 }
     }
 
+    // The iterator's step is this one; a trait's method would not have this promise.
     pub fn next(&mut self) -> Option<u8>
         ensures { SymbolGiven self.old result self.new }
     {
@@ -119,7 +120,7 @@ impl<'a> Iterator for BytesToSymbols<'a> {
     }
 }
 
-// A walk over the bytes of a slice of symbols.
+// A walk over the bytes of a slice of symbols, the same way. Both are public, so each has its own type and promises.
 #[derive(Clone, Drop)]
 pub struct SymbolsToBytes<'a> {
     pub symbols: &'a [u8],
@@ -205,30 +206,24 @@ fn write<F: Fn(usize) -> u8>(out: &mut [u8], count: usize, value: F) -> Result<u
     Ok(count)
 }
 
+// The bits left over are low bits of the last symbol, unless there are too many of them.
 fn padding_in<R: Reading>(reading: &R, list: &[u8]) -> Result<(), Refusal>
     ensures { result ≡ padding_verdict (map R.symbol_of list.now) }
 {
     let Some(last) = list.last() else {
         return Ok(());
     };
-    padding_after(list.len(), reading.read(*last))
-}
-
-// The bits left over of so many symbols are low bits of the last, unless there are too many of them.
-fn padding_after(count: usize, last: u8) -> Result<(), Refusal>
-    ensures { (symbols : List ℕ) → length symbols ≡ count → get_or symbols (count - 1) 0 % 32 ≡ last % 32 → result ≡ padding_verdict symbols }
-{
-    let left = count % 8 * 5 % 8;
+    let left = list.len() % 8 * 5 % 8;
     if MAX_PADDING < left {
         return Err(Refusal::PaddingLong);
     }
-    if last % (1 << left) != 0 {
+    if reading.read(*last) % (1 << left) != 0 {
         return Err(Refusal::PaddingNotZero);
     }
     Ok(())
 }
 
-// Five bits that start in the byte `first` lie in two bytes.
+// Five bits that start in the byte `first` lie in two bytes. One function for this and byte_at, over both widths, would be no plainer: the windows differ.
 fn symbol_at(bytes: &[u8], at: usize) -> u8
     requires { at < length (to_symbols bytes.now) }
     ensures { result ≡ get_or (to_symbols bytes.now) at 0 }
@@ -247,20 +242,10 @@ fn byte_at<R: Reading>(reading: &R, list: &[u8], at: usize) -> u8
 {
     let first = at / 5 * 8 + at % 5 * 8 / 5;
     let offset = at % 5 * 8 % 5;
-    byte_of(
-        nth(reading, list, first),
-        nth(reading, list, first + 1),
-        nth(reading, list, first + 2),
-        offset,
-    )
-}
-
-// The byte that starts at a bit of the first of three symbols.
-fn byte_of(x: u8, y: u8, z: u8, offset: usize) -> u8
-    requires { offset < 5 }
-    ensures { result ≡ (x % 32 * 1024 + y % 32 * 32 + z % 32) / 2 ^ (7 - offset) % 256 }
-{
-    let window = ((x % 32) as u16) * 1024 + ((y % 32) as u16) * 32 + (z % 32) as u16;
+    let x = nth(reading, list, first) % 32;
+    let y = nth(reading, list, first + 1) % 32;
+    let z = nth(reading, list, first + 2) % 32;
+    let window = (x as u16) * 1024 + (y as u16) * 32 + z as u16;
     ((window >> (7 - offset)) % 256) as u8
 }
 

@@ -1,20 +1,23 @@
 -- Coefficients of a product, one place a turn: what the loops over them lean on.
-use mathlib.Core.Path.{◌≡◌, refl, sym, ap, ap₂, ◌∙◌}
-use mathlib.Core.Bool.{true, false}
+use mathlib.Core.Path.{◌≡◌, refl, sym, ap, ap₂, ◌∙◌, fun_ext}
+use mathlib.Core.Bool.{Bool, true, false, ◌&&◌}
 use mathlib.Core.List.{List, [], ◌∷◌, ◌++◌}
 use Prim.Native.Nat.{ℕ, zero, suc, ◌+◌, ◌-◌, ◌<◌, ◌≤◌, min}
 use native.Mathlib.Numerals.{add-one}
+use native.Mathlib.Nat.{add-zero, zero-add, add-suc, suc-add}
 use native.Mathlib.Omega.{arith}
 use borrow.Author.Tests.{lt-ltb, le-ltb}
 use lib.ListN.{length, take, drop, get_or, replicate}
+use Rattle.std.specs.Prelude.{Ok, Err}
+use Rattle.std.specs.List.{list_all, range_with_len}
+use Rattle.numbers.specs.declared.Refusal.TheVariants.{ListFull}
 use Rattle.laws.specs.Lists.{all, table_from}
 use Rattle.laws.proofs.Tables.{tabulated}
 use Rattle.gf32_ext.specs.Field.{sum, product}
 use Rattle.gf32_ext.proofs.Field.{sum_lt}
-use Rattle.fieldvec.specs.Lists.{listed, accepted, refused}
-use Rattle.laws.proofs.Front.{front}
+use Rattle.fieldvec.specs.Lists.{listed}
 use Rattle.fieldvec.specs.declared.FieldVec.{FieldVec}
-use Rattle.fieldvec.proofs.Build.{made, zeros, fill_all, table_length}
+use Rattle.fieldvec.proofs.Build.{made, listed_is, table_length}
 use Rattle.polynomial.specs.Polynomials.{degree, trimmed}
 use Rattle.polynomial.specs.Products.{sum_below, coefficient, coefficients_from, product_modulo, convolved}
 use Rattle.polynomial.specs.Answers.{fitting}
@@ -52,13 +55,32 @@ module _ (a b : List ℕ) (d n : ℕ) where
   unfolding coefficients_from
   from_at j h = tabulated (λ j. coefficient a b (d + j)) n j h
 
-  -- what a loop that fills them in ends with
-  pub from_filled : (items : List ℕ) (j : ℕ) → n ≤ 7 → items ≡ front (coefficients_from a b d n) zeros j → j ≡ n
-      → items ≡ coefficients_from a b d n ++ replicate (7 - n) 0
-  from_filled items j h e f =
+  -- what is stored for each of seven places
+  pub from_made : (items : List ℕ) → length items ≡ 7 → n ≤ 7 → ((j : ℕ) → j < n → get_or items j 0 ≡ coefficient a b (d + j))
+      → ((j : ℕ) → n ≤ j → j < 7 → get_or items j 0 ≡ 0) → items ≡ coefficients_from a b d n ++ replicate (7 - n) 0
+  from_made items seven h at past =
       ap (λ (t : FieldVec). t.items)
-      (fill_all (coefficients_from a b d n) (omega (arith, from_length)) j {items = items} {n = n} e (omega (arith, from_length)) (omega (arith, from_length)))
+      (listed_is (λ j v. v ≡ coefficient a b (d + j)) (made items n) n (coefficients_from a b d n)
+      (record { counted = refl; full = seven; placed = at; after = past }) h from_length (λ j v k e. e ∙ sym (from_at j k)))
       ∙ ap (λ (k : ℕ). coefficients_from a b d n ++ replicate {A = ℕ} (7 - k) 0) from_length
+
+-- the coefficients that are tested one by one, and those past the seventh place
+all_from : (q : ℕ → Bool) (g : ℕ → ℕ) (i n : ℕ) → list_all (λ k. q (g k)) (range_with_len i n) ≡ all q (table_from g i n)
+all_from q g i zero = refl
+all_from q g i (suc n) = ap (λ (b : Bool). q (g i) && b) (ap (λ (k : ℕ). list_all (λ k. q (g k)) (range_with_len k n)) (add-one i) ∙ all_from q g (suc i) n)
+
+drop_table_from : (g : ℕ → ℕ) (m i n : ℕ) → drop m (table_from g i n) ≡ table_from g (i + m) (n - m)
+drop_table_from g zero i n = let same : n ≡ n - 0 = omega arith in ap₂ (table_from g) (sym (add-zero i)) same
+drop_table_from g (suc m) i zero = let same : 0 ≡ 0 - suc m = omega arith in ap (table_from g (i + suc m)) same
+drop_table_from g (suc m) i (suc n) =
+    let same : n - m ≡ suc n - suc m = omega arith in
+    drop_table_from g m (suc i) n ∙ ap₂ (table_from g) (suc-add i m ∙ sym (add-suc i m)) same
+
+pub from_tested : (a b : List ℕ) (n : ℕ) → list_all (λ k. none (coefficient a b k)) (range_with_len 7 (n - 7)) ≡ all none (drop 7 (coefficients_from a b 0 n))
+unfolding coefficients_from
+from_tested a b n =
+    all_from none (coefficient a b) 7 (n - 7)
+    ∙ sym (ap (all none) (drop_table_from (λ j. coefficient a b (0 + j)) 7 0 n ∙ ap (λ (g : ℕ → ℕ). table_from g 7 (n - 7)) (fun_ext (λ j. ap (coefficient a b) (zero-add j)))))
 
 take_table_from : (g : ℕ → ℕ) (m i n : ℕ) → take m (table_from g i n) ≡ table_from g i (min n m)
 take_table_from g zero i n = let e : 0 ≡ min n 0 = omega arith in ap (table_from g i) e
@@ -78,12 +100,12 @@ module _ (a b : List ℕ) (d n : ℕ) (places : n ≡ min d (length a + length b
   unfolding product_modulo
   product_is = ap (λ (k : ℕ). trimmed (coefficients_from a b 0 k)) (sym places)
 
-  pub product_long : all none (drop 7 (coefficients_from a b 0 n)) ≡ false → refused 25 (listed []) ≡ fitting (product_modulo a b d)
+  pub product_long : all none (drop 7 (coefficients_from a b 0 n)) ≡ false → Err ListFull ≡ fitting (product_modulo a b d)
   product_long e = rw (product_is, lt-ltb 7 (length (trimmed (coefficients_from a b 0 n))) (trimmed_long 7 (coefficients_from a b 0 n) e))
 
   pub product_fits : (items : List ℕ) → all none (drop 7 (coefficients_from a b 0 n)) ≡ true
       → items ≡ coefficients_from a b 0 (min n 7) ++ replicate (7 - min n 7) 0
-      → accepted (listed (trimmed items)) ≡ fitting (product_modulo a b d)
+      → Ok (listed (trimmed items)) ≡ fitting (product_modulo a b d)
   product_fits items e i = rw (product_is, same, le-ltb 7 (length (trimmed items)) (omega (arith, short)))
     where
       cut : trimmed items ≡ trimmed (coefficients_from a b 0 (min n 7))

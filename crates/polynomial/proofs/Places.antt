@@ -1,17 +1,18 @@
 -- The degree, found from the end: the last place of a coefficient other than zero.
-use mathlib.Core.Path.{◌≡◌, refl, sym, ap, ◌∙◌}
+use mathlib.Core.Path.{◌≡◌, refl, sym, ap}
 use mathlib.Core.Bool.{Bool, true, false}
 use mathlib.Core.List.{List, [], ◌∷◌}
-use Prim.Native.Nat.{ℕ, zero, suc, ◌-◌, ◌%◌, ◌<◌, ◌≤◌}
+use Prim.Native.Nat.{ℕ, zero, suc, ◌%◌, ◌<◌, ◌≤◌}
 use native.Mathlib.Nat.{not-suc-le-zero, le_of_suc-le-suc}
 use native.Mathlib.Omega.{arith}
-use borrow.Author.Tests.{ne_eqb}
+use borrow.Author.Tests.{eq-eqb, ne_eqb}
 use lib.ListN.{length, drop, get_or}
-use lib.Seq.{drop-cons}
+use Rattle.std.specs.Prelude.{Option, Some, None}
+use Rattle.std.specs.Option.{unwrap_or}
 use Rattle.laws.specs.Pick.{pick}
 use Rattle.laws.specs.Lists.{all}
-use Rattle.laws.proofs.Bools.{and_false, and_second}
-use Rattle.polynomial.specs.Polynomials.{is_zero, degree}
+use Rattle.laws.proofs.Bools.{and_false}
+use Rattle.polynomial.specs.Polynomials.{is_zero, degree, LastOf}
 
 -- a test that fails somewhere fails for the whole list
 pub not_all : (q : ℕ → Bool) (cs : List ℕ) (i : ℕ) → i < length cs → q (get_or cs i 0) ≡ false → all q cs ≡ false
@@ -40,15 +41,15 @@ unfolding degree
 degree_le [] = omega arith
 degree_le (c ∷ cs) = picked_le (all is_zero cs) (degree cs) (length cs) (degree_le cs)
 
--- one turn of a loop from the end: a zero more
-pub zeros_more : (q : ℕ → Bool) (s : List ℕ) (n : ℕ) → 0 < n → n ≤ length s → q (get_or s (n - 1) 0) ≡ true → all q (drop n s) ≡ true → all q (drop (n - 1) s) ≡ true
-zeros_more q s n h k e t =
-    let f : n ≡ suc (n - 1) = omega arith in
-    ap (all q) (drop-cons s (n - 1) 0 (omega arith)) ∙ rw e (ap (λ (m : ℕ). all q (drop m s)) (sym f) ∙ t)
+-- a test that passes from a place on
+pub all_after : (q : ℕ → Bool) (s : List ℕ) (n : ℕ) → ((k : ℕ) → n ≤ k → k < length s → q (get_or s k 0) ≡ true) → all q (drop n s) ≡ true
+all_after q [] zero h = refl
+all_after q [] (suc n) h = refl
+all_after q (c ∷ cs) zero h = rw (h 0 (omega arith) (omega arith)) (all_after q cs 0 (λ k _ l. h (suc k) (omega arith) (omega arith)))
+all_after q (c ∷ cs) (suc n) h = all_after q cs n (λ k m l. h (suc k) (omega arith) (omega arith))
 
--- where that loop ends: at the first coefficient, or before it
-pub zeros_from_one : (q : ℕ → Bool) (s : List ℕ) (n : ℕ) → n ≤ 1 → all q (drop n s) ≡ true → all q (drop 1 s) ≡ true
-zeros_from_one q [] zero h e = refl
-zeros_from_one q (c ∷ cs) zero h e = and_second (q c) (all q cs) e
-zeros_from_one q s (suc zero) h e = e
-zeros_from_one q s (suc (suc n)) h e = absurd (omega arith)
+-- the degree is that place
+pub degree_last : (cs : List ℕ) (r : Option ℕ) → LastOf (λ v. v % 1024) cs r → unwrap_or r 0 ≡ degree cs
+degree_last cs None h = sym (degree_none cs (all_after is_zero cs 1 (λ k _ l. eq-eqb (get_or cs k 0 % 1024) 0 (h k l))))
+degree_last cs (Some i) h =
+    sym (degree_at cs i h.0 h.1 (all_after is_zero cs (suc i) (λ k m l. eq-eqb (get_or cs k 0 % 1024) 0 (h.2 k m l))))

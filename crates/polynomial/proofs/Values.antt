@@ -1,11 +1,13 @@
 -- The value of a polynomial: Horner's rule gives the sum of c_i x^i; the values at 0 and at 1; and multiples in characteristic 2.
 use mathlib.Core.Path.{◌≡◌, refl, sym, ap, ap₂, ◌∙◌}
+use mathlib.Core.Bool.{Bool, true, false}
 use mathlib.Core.List.{List, [], ◌∷◌}
 use Prim.Native.Nat.{ℕ, zero, suc, ◌+◌, ◌-◌, ◌%◌, ◌<◌, ◌≤◌}
 use native.Mathlib.Nat.{mod-eq_of_lt, add-zero, add-suc, suc-add, add_comm, not-suc-le-zero, le_of_suc-le-suc}
 use native.Mathlib.Omega.{arith}
-use lib.Dec.{lit<}
-use lib.ListN.{length, drop, get_or, length-drop}
+use borrow.Author.Tests.{ltb-true, ltb-false}
+use lib.Dec.{lit<, ltb}
+use lib.ListN.{length, drop, get_or, length-drop, get_or-eq_default}
 use lib.Seq.{drop-cons, get_or-drop}
 use Rattle.gf32_ext.specs.Field.{sum, product, power}
 use Rattle.gf32_ext.proofs.Field.{sum_lt, sum_comm, sum_assoc, sum_self, sum_zero, zero_sum, sum_mod_left, product_sum, product_zero, zero_product, product_one, one_product, product_left_comm}
@@ -42,6 +44,15 @@ value_more s n x h k =
     ap (λ (m : ℕ). sum (product x (value_at (drop m s) x)) (get_or s (n - 1) 0)) e
     ∙ sym (ap (λ (l : List ℕ). value_at l x) (drop-cons s (n - 1) 0 (omega arith)) ∙ value_cons (get_or s (n - 1) 0) (drop (suc (n - 1)) s) x)
 
+-- the same at the k-th turn, where `times` is the product with x
+pub value_turn : (s : List ℕ) (x k c : ℕ) {value times after : ℕ} → k < length s → c ≡ get_or s (length s - 1 - k) 0
+    → value ≡ value_at (drop (length s - k) s) x → times ≡ product x value → after ≡ sum times c → after ≡ value_at (drop (length s - (k + 1)) s) x
+value_turn s x k c h e v t a =
+    let place : length s - 1 - k ≡ length s - k - 1 = omega arith in
+    let next : length s - k - 1 ≡ length s - (k + 1) = omega arith in
+    a ∙ ap₂ sum (t ∙ ap (product x) v) (e ∙ ap (λ (i : ℕ). get_or s i 0) place)
+    ∙ value_more s (length s - k) x (omega arith) (omega arith) ∙ ap (λ (n : ℕ). value_at (drop n s) x) next
+
 -- ---- at 0 and at 1
 
 pub value_at_zero : (cs : List ℕ) → value_at cs 0 ≡ get_or cs 0 0 % 1024
@@ -51,12 +62,6 @@ value_at_zero (c ∷ cs) = value_cons c cs 0 ∙ ap (λ (v : ℕ). sum v c) (zer
 pub value_at_one : (c : ℕ) (cs : List ℕ) → value_at (c ∷ cs) 1 ≡ sum c (value_at cs 1)
 value_at_one c cs =
     value_cons c cs 1 ∙ ap (λ (v : ℕ). sum v c) (one_product (value_at cs 1) ∙ mod-eq_of_lt (value_lt cs 1)) ∙ sum_comm (value_at cs 1) c
-
-pub total_more : (s : List ℕ) (n : ℕ) → 0 < n → n ≤ length s → sum (get_or s (n - 1) 0) (value_at (drop n s) 1) ≡ value_at (drop (n - 1) s) 1
-total_more s n h k =
-    let e : n ≡ suc (n - 1) = omega arith in
-    ap (λ (m : ℕ). sum (get_or s (n - 1) 0) (value_at (drop m s) 1)) e
-    ∙ sym (ap (λ (l : List ℕ). value_at l 1) (drop-cons s (n - 1) 0 (omega arith)) ∙ value_at_one (get_or s (n - 1) 0) (drop (suc (n - 1)) s))
 
 -- ---- multiples
 
@@ -95,11 +100,23 @@ multiples_at k (c ∷ cs) zero h = ap (λ (n : ℕ). multiple n c) (sym (add-zer
 multiples_at k (c ∷ cs) (suc i) h =
     multiples_at (suc k) cs i (le_of_suc-le-suc h) ∙ ap (λ (n : ℕ). multiple n (get_or cs i 0)) (suc-add k i ∙ sym (add-suc k i))
 
--- the coefficients of a derivative
+-- the coefficients of a derivative, and zeros past the last
+multiple_zero : (n : ℕ) → multiple n 0 ≡ 0
+unfolding multiple
+multiple_zero zero = refl
+multiple_zero (suc n) = ap (sum 0) (multiple_zero n) ∙ sum_self 0
+
 pub derived_length : (s : List ℕ) → length (multiples 1 (drop 1 s)) ≡ length s - 1
 derived_length s = multiples_length 1 (drop 1 s) ∙ length-drop 1 s
 
-pub derived_at : (s : List ℕ) (i : ℕ) → i + 1 < length s → get_or (multiples 1 (drop 1 s)) i 0 ≡ multiple (i + 1) (get_or s (i + 1) 0)
-derived_at s i h =
-    multiples_at 1 (drop 1 s) i (omega (arith, length-drop 1 s))
-    ∙ ap₂ multiple (add_comm 1 i) (get_or-drop 1 s i 0 ∙ ap (λ (k : ℕ). get_or s k 0) (add_comm 1 i))
+pub derived_at : (s : List ℕ) (i : ℕ) → get_or (multiples 1 (drop 1 s)) i 0 ≡ multiple (i + 1) (get_or s (i + 1) 0)
+derived_at s i = by (ltb (i + 1) (length s)) refl
+  where
+    by : (b : Bool) → ltb (i + 1) (length s) ≡ b → get_or (multiples 1 (drop 1 s)) i 0 ≡ multiple (i + 1) (get_or s (i + 1) 0)
+    by true e =
+        multiples_at 1 (drop 1 s) i (omega (arith, length-drop 1 s, ltb-true (i + 1) (length s) e))
+        ∙ ap₂ multiple (add_comm 1 i) (get_or-drop 1 s i 0 ∙ ap (λ (k : ℕ). get_or s k 0) (add_comm 1 i))
+    by false e =
+        let past = ltb-false (i + 1) (length s) e in
+        get_or-eq_default (multiples 1 (drop 1 s)) 0 (omega (arith, derived_length s, past))
+        ∙ sym (multiple_zero (i + 1)) ∙ ap (multiple (i + 1)) (sym (get_or-eq_default s 0 past))

@@ -1,51 +1,44 @@
 -- The answers: those of the polynomial that a FieldVec means. Document 01, answer 26: a FieldVec whose count is over its capacity; 25: a product
 -- of more coefficients than a list has room for; 27: powers of zero, which are none.
-use Rattle.std.specs.Prelude.{List, [], ℕ, ◌-◌, ◌%◌, eqb, ltb, length}
+use Rattle.std.specs.Prelude.{Bool, Option, Some, None, Result, Ok, Err, List, ℕ, ◌-◌, ◌%◌, eqb, ltb, length}
 use Rattle.laws.specs.Pick.{pick}
 use Rattle.laws.specs.Lists.{first_from}
+use Rattle.numbers.specs.declared.Refusal.{Refusal}
+use Rattle.numbers.specs.declared.Refusal.TheVariants.{ListFull, ListPlace, DivisionByZero}
 use Rattle.gf32_ext.specs.Field.{field_order, power}
 use Rattle.fieldvec.specs.declared.FieldVec.{FieldVec}
-use Rattle.fieldvec.specs.declared.Changed.{Changed}
-use Rattle.fieldvec.specs.declared.Element.{Element}
-use Rattle.fieldvec.specs.declared.Element.TheVariants as element
-use Rattle.fieldvec.specs.Lists.{capacity, elements, listed, accepted, refused}
-use Rattle.polynomial.specs.declared.Exponent.{Exponent}
-use Rattle.polynomial.specs.declared.Exponent.TheVariants as exponent
-use Rattle.polynomial.specs.declared.Truth.{Truth}
-use Rattle.polynomial.specs.declared.Truth.TheVariants as truth
-use Rattle.polynomial.specs.declared.Root.{Root}
-use Rattle.polynomial.specs.declared.Root.TheVariants as root
+use Rattle.fieldvec.specs.Lists.{capacity, elements, listed}
 use Rattle.polynomial.specs.Polynomials.{degree, leading, value_at, is_root, derivative}
 use Rattle.polynomial.specs.Products.{product_modulo, convolved}
 
-unfoldable pub degree_of : FieldVec → Exponent
-degree_of p = pick (ltb capacity p.len) (exponent.Refused 26) (exponent.Value (degree (elements p)))
+-- the answer for the polynomial that p means, unless p counts more than its capacity
+abbrev pub about : {A : Type 0} → FieldVec → (List ℕ → Result A Refusal) → Result A Refusal
+about p answer = pick (ltb capacity p.len) (Err ListPlace) (answer (elements p))
 
-unfoldable pub leading_of : FieldVec → Element
-leading_of p = pick (ltb capacity p.len) (element.Refused 26) (element.Value (leading (elements p)))
+unfoldable pub degree_of : FieldVec → Result ℕ Refusal
+degree_of p = about p (λ cs. Ok (degree cs))
 
-unfoldable pub zero_is_root : FieldVec → Truth
-zero_is_root p = pick (ltb capacity p.len) (truth.Refused 26) (pick (is_root (elements p) 0) truth.Yes truth.No)
+unfoldable pub leading_of : FieldVec → Result ℕ Refusal
+leading_of p = about p (λ cs. Ok (leading cs))
 
-unfoldable pub value_of : FieldVec → ℕ → Element
-value_of p x = pick (ltb capacity p.len) (element.Refused 26) (element.Value (value_at (elements p) x))
+unfoldable pub zero_is_root : FieldVec → Result Bool Refusal
+zero_is_root p = about p (λ cs. Ok (is_root cs 0))
 
-unfoldable pub derivative_of : FieldVec → Changed
-derivative_of p = pick (ltb capacity p.len) (refused 26 (listed [])) (accepted (listed (derivative (elements p))))
+unfoldable pub value_of : FieldVec → ℕ → Result ℕ Refusal
+value_of p x = about p (λ cs. Ok (value_at cs x))
+
+unfoldable pub derivative_of : FieldVec → Result FieldVec Refusal
+derivative_of p = about p (λ cs. Ok (listed (derivative cs)))
 
 -- a list for which there is room, or 25
-abbrev pub fitting : List ℕ → Changed
-fitting l = pick (ltb capacity (length l)) (refused 25 (listed [])) (accepted (listed l))
+abbrev pub fitting : List ℕ → Result FieldVec Refusal
+fitting l = pick (ltb capacity (length l)) (Err ListFull) (Ok (listed l))
 
-unfoldable pub product_of : FieldVec → FieldVec → ℕ → Changed
-product_of p q d =
-    pick (ltb capacity p.len) (refused 26 (listed []))
-    (pick (ltb capacity q.len) (refused 26 (listed [])) (fitting (product_modulo (elements p) (elements q) d)))
+unfoldable pub product_of : FieldVec → FieldVec → ℕ → Result FieldVec Refusal
+product_of p q d = about p (λ a. about q (λ b. fitting (product_modulo a b d)))
 
-unfoldable pub convolution_of : FieldVec → FieldVec → Changed
-convolution_of p q =
-    pick (ltb capacity p.len) (refused 26 (listed []))
-    (pick (ltb capacity q.len) (refused 26 (listed [])) (accepted (listed (convolved (elements p) (elements q)))))
+unfoldable pub convolution_of : FieldVec → FieldVec → Result FieldVec Refusal
+convolution_of p q = about p (λ a. about q (λ b. Ok (listed (convolved a b))))
 
 -- the order of the field's multiplicative group
 abbrev pub group_order : ℕ
@@ -55,8 +48,9 @@ group_order = 1023
 unfoldable pub root_from : List ℕ → ℕ → ℕ → ℕ
 root_from cs base k = first_from k (group_order - k) (λ e. is_root cs (power base e))
 
-unfoldable pub first_root : FieldVec → ℕ → ℕ → Root
-first_root p base k =
-    pick (ltb capacity p.len) (root.Refused 26)
-    (pick (eqb (base % field_order) 0) (root.Refused 27)
-    (pick (ltb (root_from (elements p) base k) group_order) (root.At (root_from (elements p) base k)) root.None))
+-- that exponent, if there is one
+abbrev pub root_after : List ℕ → ℕ → ℕ → Option ℕ
+root_after cs base k = pick (ltb (root_from cs base k) group_order) (Some (root_from cs base k)) None
+
+unfoldable pub first_root : FieldVec → ℕ → ℕ → Result (Option ℕ) Refusal
+first_root p base k = about p (λ cs. pick (eqb (base % field_order) 0) (Err DivisionByZero) (Ok (root_after cs base k)))

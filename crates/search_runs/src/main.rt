@@ -59,7 +59,7 @@ impl fmt::Display for Shown {
                 Ok(())
             }
             Ok(None) => write!(f, "n {steps}"),
-            Err(refusal) => write!(f, "r {} {steps}", u8::from(refusal)),
+            Err(_) => write!(f, "r {} {steps}", numbers::number_in(self.outcome.found)),
         }
     }
 }

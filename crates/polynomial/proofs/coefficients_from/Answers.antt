@@ -1,24 +1,20 @@
--- Coefficients of a product, made from zeros. The invariant: as many as were passed stand in their places.
-use mathlib.Core.Path.{refl, sym, ◌∙◌}
+-- Coefficients of a product, and zeros (proofs/Coefficients.antt).
+use mathlib.Core.Path.{◌∙◌}
+use Prim.Native.Nat.{◌+◌, ◌%◌}
+use native.Mathlib.Nat.{mod-eq_of_lt}
 use native.Mathlib.Omega.{arith}
-use Rattle.fieldvec.proofs.Build.{fill_more}
-use Rattle.fieldvec.proofs.Stored.{narrowed_whole}
-use Rattle.polynomial.specs.Products.{coefficients_from}
 use borrow.Author.Rules.{rules}
-use Rattle.polynomial.proofs.Coefficients.{coefficient_lt, from_length, from_at, from_filled}
+use borrow.Author.Tests.{tests, lt-ltb, le-ltb}
+use lib.Dec.{ltb}
+use Rattle.laws.specs.Pick.{pick}
+use Rattle.polynomial.specs.Products.{coefficient}
+use Rattle.polynomial.proofs.Coefficients.{coefficient_lt, from_made}
+use Rattle.polynomial.proofs.Made.{from_fn_at}
 use Rattle.polynomial.proofs.coefficients_from.Goals as goal
 
-pub loop-j-init : goal.loop-j-init
-loop-j-init c = (search rules, refl)
-
-pub loop-j-preserved : goal.loop-j-preserved
-loop-j-preserved c =
-    let known = from_length c.args.a.now c.args.b.now c.args.d c.args.n in (
-      search rules,
-      fill_more (coefficients_from c.args.a.now c.args.b.now c.args.d c.args.n) (omega arith) c.loop-j.j c.loop-j.invariant.1 (omega arith)
-          (narrowed_whole c.coefficient_of.ensures (coefficient_lt _ _ _) c.narrowed.ensures
-          ∙ sym (from_at c.args.a.now c.args.b.now c.args.d c.args.n c.loop-j.j (search rules))),
-    )
-
 pub returns : goal.returns
-returns c = from_filled c.args.a.now c.args.b.now c.args.d c.args.n c.loop-j.items c.loop-j.j (omega arith) c.loop-j.invariant.1 (omega arith)
+returns c =
+    let at = from_fn_at _ (λ j. pick (ltb j c.args.n) (coefficient c.args.a.now c.args.b.now (c.args.d + j) % 1024) 0) _ (λ i r q e. search (rules, tests)) c.from_fn.result 7 c.from_fn.ensures.items in
+    from_made c.args.a.now c.args.b.now c.args.d c.args.n c.from_fn.result c.from_fn.ensures.items.long (omega arith)
+    (λ j h. at j (omega arith) ∙ rw (lt-ltb j c.args.n h) (mod-eq_of_lt (coefficient_lt _ _ _)))
+    (λ j h top. at j top ∙ rw (le-ltb j c.args.n h))

@@ -10,4 +10,4 @@ returns-then-s-d c =
 
 pub returns : goal.returns
 returns c =
-    convolved_made c.args.a.now c.args.s.now c.coefficients_from-items.result c.degree_of-d.result c.degree_of-d.ensures c.if-s-d.false c.coefficients_from-items.ensures
+    convolved_made c.args.a.now c.args.s.now c.coefficients_from.result c.degree_of-d.result c.degree_of-d.ensures c.if-s-d.false c.coefficients_from.ensures

@@ -1,14 +1,21 @@
--- `degree` meets its promise, test by test.
-use Rattle.polynomial.specs.declared.Exponent.TheVariants.{Value}
+-- `degree` meets its promise, exit by exit.
+use mathlib.Core.Path.{sym, ap, ◌∙◌}
+use Rattle.std.specs.Prelude.{Ok}
+use Rattle.std.proofs.lemmas.Result.{err_from_is_err_and}
+use Rattle.fieldvec.proofs.Laws.{shown_ok, exit}
+use Rattle.polynomial.specs.Polynomials.{degree}
 use Rattle.polynomial.specs.Answers.{degree_of}
-use mathlib.Core.Path.{ap}
-use borrow.Author.Tests.{lt-ltb, le-ltb}
+use Rattle.polynomial.proofs.About.{about_outside, about_whole}
 use Rattle.polynomial.proofs.degree.Goals as goal
 
-pub returns-then-n-gt-CAPACITY : goal.returns-then-n-gt-CAPACITY
+pub returns-in_err-elements : goal.returns-in_err-elements
 unfolding degree_of
-returns-then-n-gt-CAPACITY c = rw (lt-ltb _ _ c.if-n-gt-CAPACITY.true)
+returns-in_err-elements c =
+    let out = exit c.args.p.now _ c.from_residual.result (err_from_is_err_and c.from_residual.result c.from_residual.ensures.1) c.in_err-elements.ensures in
+    out.1 ∙ sym (about_outside c.args.p.now (λ l. Ok (degree l)) out.0)
 
 pub returns : goal.returns
 unfolding degree_of
-returns c = rw (le-ltb _ _ c.if-n-gt-CAPACITY.false) (ap Value c.degree_of.ensures)
+returns c =
+    let shown = shown_ok c.args.p.now _ c.in_ok-elements.ensures in
+    ap Ok (c.degree_of.ensures ∙ ap degree shown.1) ∙ sym (about_whole c.args.p.now (λ l. Ok (degree l)) shown.0)

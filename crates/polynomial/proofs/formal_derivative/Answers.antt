@@ -1,14 +1,25 @@
--- `formal_derivative` meets its promise, test by test.
-use mathlib.Core.Path.{ap}
-use borrow.Author.Tests.{lt-ltb, le-ltb}
-use Rattle.fieldvec.specs.Lists.{accepted}
+-- `formal_derivative` meets its promise, exit by exit.
+use mathlib.Core.Path.{sym, ap, ◌∙◌}
+use Rattle.std.specs.Prelude.{Ok}
+use Rattle.std.proofs.lemmas.Result.{err_from_is_err_and}
+use Rattle.fieldvec.proofs.Laws.{shown_ok, exit, elements_short}
+use Rattle.fieldvec.specs.Lists.{listed}
+use Rattle.polynomial.specs.Polynomials.{derivative}
 use Rattle.polynomial.specs.Answers.{derivative_of}
+use Rattle.polynomial.proofs.About.{about_outside, about_whole}
 use Rattle.polynomial.proofs.formal_derivative.Goals as goal
 
-pub returns-then-n-gt-CAPACITY : goal.returns-then-n-gt-CAPACITY
+pub returns-in_err-elements : goal.returns-in_err-elements
 unfolding derivative_of
-returns-then-n-gt-CAPACITY c = rw (lt-ltb _ _ c.if-n-gt-CAPACITY.true) c.refused_with.ensures
+returns-in_err-elements c =
+    let out = exit c.args.p.now _ c.from_residual.result (err_from_is_err_and c.from_residual.result c.from_residual.ensures.1) c.in_err-elements.ensures in
+    out.1 ∙ sym (about_outside c.args.p.now (λ l. Ok (listed (derivative l))) out.0)
+
+pub derived-requires : goal.derived-requires
+derived-requires c = let shown = shown_ok c.args.p.now _ c.in_ok-elements.ensures in rw shown.1 (elements_short c.args.p.now shown.0)
 
 pub returns : goal.returns
 unfolding derivative_of
-returns c = rw (le-ltb _ _ c.if-n-gt-CAPACITY.false) (ap accepted c.derived-list.ensures)
+returns c =
+    let shown = shown_ok c.args.p.now _ c.in_ok-elements.ensures in
+    ap Ok (c.derived.ensures ∙ ap (λ l. listed (derivative l)) shown.1) ∙ sym (about_whole c.args.p.now (λ l. Ok (listed (derivative l))) shown.0)

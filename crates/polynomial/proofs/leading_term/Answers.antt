@@ -1,15 +1,21 @@
--- `leading_term` meets its promise, test by test.
-use Rattle.fieldvec.specs.declared.Element.TheVariants.{Value}
+-- `leading_term` meets its promise, exit by exit.
+use mathlib.Core.Path.{sym, ap, ◌∙◌}
+use Rattle.std.specs.Prelude.{Ok}
+use Rattle.std.proofs.lemmas.Result.{err_from_is_err_and}
+use Rattle.fieldvec.proofs.Laws.{shown_ok, exit}
 use Rattle.polynomial.specs.Polynomials.{leading}
 use Rattle.polynomial.specs.Answers.{leading_of}
-use mathlib.Core.Path.{ap}
-use borrow.Author.Tests.{lt-ltb, le-ltb}
+use Rattle.polynomial.proofs.About.{about_outside, about_whole}
 use Rattle.polynomial.proofs.leading_term.Goals as goal
 
-pub returns-then-n-gt-CAPACITY : goal.returns-then-n-gt-CAPACITY
-unfolding leading_of leading
-returns-then-n-gt-CAPACITY c = rw (lt-ltb _ _ c.if-n-gt-CAPACITY.true)
+pub returns-in_err-elements : goal.returns-in_err-elements
+unfolding leading_of
+returns-in_err-elements c =
+    let out = exit c.args.p.now _ c.from_residual.result (err_from_is_err_and c.from_residual.result c.from_residual.ensures.1) c.in_err-elements.ensures in
+    out.1 ∙ sym (about_outside c.args.p.now (λ l. Ok (leading l)) out.0)
 
 pub returns : goal.returns
 unfolding leading_of leading
-returns c = rw (le-ltb _ _ c.if-n-gt-CAPACITY.false) (ap Value c.leading_of.ensures)
+returns c =
+    let shown = shown_ok c.args.p.now _ c.in_ok-elements.ensures in
+    ap Ok (c.leading_of.ensures ∙ ap leading shown.1) ∙ sym (about_whole c.args.p.now (λ l. Ok (leading l)) shown.0)

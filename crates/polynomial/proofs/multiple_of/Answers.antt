@@ -6,5 +6,5 @@ use Rattle.polynomial.proofs.multiple_of.Goals as goal
 pub returns-then-n-eq0 : goal.returns-then-n-eq0
 returns-then-n-eq0 c = sym (multiple_even c.args.n c.args.c c.if-n-eq0.true)
 
-pub returns : goal.returns
-returns c = sym (multiple_odd c.args.n c.args.c c.if-n-eq0.false)
+pub returns-else-n-eq0 : goal.returns-else-n-eq0
+returns-else-n-eq0 c = sym (multiple_odd c.args.n c.args.c c.if-n-eq0.false)

@@ -1,32 +1,18 @@
--- Whether nothing stands from the seventh place on. The invariant: what is left has the answer of the whole.
-use mathlib.Core.Path.{refl, sym, ap, ◌∙◌}
-use native.Mathlib.Nat.{zero-add}
-use native.Mathlib.Omega.{arith}
-use borrow.Author.Tests.{eq-eqb, ne_eqb}
-use lib.ListN.{get_or}
-use Rattle.laws.proofs.Lists.{all_more, all_stop, all_done}
-use Rattle.polynomial.specs.Products.{coefficient, coefficients_from}
+-- Whether nothing stands from the seventh place on.
+use mathlib.Core.Path.{refl, ◌∙◌}
+use Prim.Native.Nat.{ℕ, ◌-◌}
 use borrow.Author.Rules.{rules}
-use Rattle.polynomial.proofs.Coefficients.{from_length, from_at}
+use borrow.Author.Tests.{tests}
+use Rattle.std.proofs.lemmas.Iterator.{YieldsList-from_range}
+use Rattle.std.proofs.lemmas.Iterator.Search.{all_from_yields_List}
+use Rattle.polynomial.specs.Products.{coefficient}
 use Rattle.polynomial.proofs.Trim.{none}
+use Rattle.polynomial.proofs.Coefficients.{from_tested}
 use Rattle.polynomial.proofs.rest_is_zero.Goals as goal
-
-pub loop-k-init : goal.loop-k-init
-loop-k-init c = (search rules, refl)
-
-pub returns-then-coefficient_of-ne0 : goal.returns-then-coefficient_of-ne0
-returns-then-coefficient_of-ne0 c =
-    let known = from_length c.args.a.now c.args.b.now 0 c.args.n in
-    all_stop none (coefficients_from c.args.a.now c.args.b.now 0 c.args.n) c.loop-k.k (omega arith) (ne_eqb (get_or (coefficients_from c.args.a.now c.args.b.now 0 c.args.n) c.loop-k.k 0) 0 (λ e. c.if-coefficient_of-ne0.true (sym (from_at c.args.a.now c.args.b.now 0 c.args.n c.loop-k.k (omega arith) ∙ ap (coefficient c.args.a.now c.args.b.now) (zero-add c.loop-k.k) ∙ sym c.coefficient_of.ensures) ∙ e))) ∙ c.loop-k.invariant.1
-
-pub loop-k-preserved : goal.loop-k-preserved
-loop-k-preserved c =
-    let known = from_length c.args.a.now c.args.b.now 0 c.args.n in (
-      search rules,
-      all_more none (coefficients_from c.args.a.now c.args.b.now 0 c.args.n) c.loop-k.k (omega arith) (eq-eqb (get_or (coefficients_from c.args.a.now c.args.b.now 0 c.args.n) c.loop-k.k 0) 0 (from_at c.args.a.now c.args.b.now 0 c.args.n c.loop-k.k (omega arith) ∙ ap (coefficient c.args.a.now c.args.b.now) (zero-add c.loop-k.k) ∙ sym c.coefficient_of.ensures ∙ c.if-coefficient_of-ne0.false)) ∙ c.loop-k.invariant.1,
-    )
 
 pub returns : goal.returns
 returns c =
-    let known = from_length c.args.a.now c.args.b.now 0 c.args.n in
-    all_done none (coefficients_from c.args.a.now c.args.b.now 0 c.args.n) c.loop-k.k (omega arith) ∙ c.loop-k.invariant.1
+    all_from_yields_List (λ (k : ℕ). none (coefficient c.args.a.now c.args.b.now k)) c.all.new.self _ _ c.all.ensures.ran
+    (YieldsList-from_range 7 c.args.n (c.args.n - 7) refl refl)
+    (λ x b q k. search (rules, tests))
+    ∙ from_tested c.args.a.now c.args.b.now c.args.n

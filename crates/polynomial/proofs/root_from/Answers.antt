@@ -1,66 +1,68 @@
--- The search for a root. The invariant: the terms kept are those at the base's power e, whatever polynomial the first ones came of, and its
--- first root from e on is its first root from the start.
-use mathlib.Core.Path.{◌≡◌, refl, sym, ap, ◌∙◌}
-use Prim.Native.Nat.{ℕ}
+-- The search for a root (proofs/Chien.antt). No step of it is refused: each list is as long as the polynomial's.
+use mathlib.Core.Path.{refl, ap, ◌∙◌}
 use native.Mathlib.Omega.{arith}
-use lib.ListN.{length}
+use Rattle.std.specs.Prelude.{Ok}
 use Rattle.gf32_ext.specs.Field.{power}
-use Rattle.fieldvec.specs.declared.Changed.{Changed}
 use Rattle.fieldvec.specs.Lists.{elements, powers_given}
-use Rattle.fieldvec.proofs.Laws.{prefix_length, powers_accepted}
-use Rattle.polynomial.proofs.Chien.{kept_size, first_kept, root_nowhere, root_end, root_turn}
-use borrow.Author.Rules.{rules}
-use Rattle.polynomial.proofs.root_from.Invariants.{Reached}
+use Rattle.fieldvec.proofs.Laws.{shown_ok, shown_err, accepts, left_made, elements_short}
+use Rattle.polynomial.specs.Polynomials.{value_at}
+use Rattle.polynomial.proofs.Chien.{kept_size, powers_kept, powers_for, first_kept, root_end, root_turn, root_nowhere, some_after, none_after}
 use Rattle.polynomial.proofs.root_from.Goals as goal
+
+pub returns-in_err-step : goal.returns-in_err-step
+returns-in_err-step c = absurd (powers_kept c.args.p.now (omega arith) c.requires.0 c.args.base c.in_err-step.ensures)
+
+pub returns-in_err-start : goal.returns-in_err-start
+returns-in_err-start c = absurd (powers_kept c.args.p.now (omega arith) c.requires.0 c.power_of.result c.in_err-start.ensures)
+
+pub returns-in_err-multiply_pointwise : goal.returns-in_err-multiply_pointwise
+returns-in_err-multiply_pointwise c =
+    absurd (accepts c.args.p.now (first_kept c.args.p.now (omega arith) c.requires.0 c.power_of.result c.in_ok-start.ensures) c.in_err-multiply_pointwise.ensures.result)
 
 pub loop-e-init : goal.loop-e-init
 loop-e-init c = (
-  search rules,
-  c.requires.0,
-  ap (λ (r : Changed). r.list) (c.powers-stepped.ensures ∙ powers_accepted c.args.base c.args.p.len c.requires.0),
-  λ cs size first. (first, refl),
+  left_made c.args.p.now
+      (first_kept c.args.p.now (omega arith) c.requires.0 (power c.args.base c.args.from)
+      (c.in_ok-start.ensures ∙ ap (λ x. powers_given x c.args.p.now.len) c.power_of.ensures))
+      c.multiply_pointwise.ensures.list,
+  refl,
 )
 
-pub sum_of-requires : goal.sum_of-requires
-sum_of-requires c =
-    let seven : length c.args.p.items ≡ 7 = search rules in
-    let sized : length (elements c.args.p) ≡ c.args.p.len = sym (prefix_length c.args.p.len c.args.p.items seven c.requires.0) in
-    let reached : Reached (elements c.args.p) c.args.base c.args.from c.loop-e.e c.loop-e.terms = c.loop-e.invariant.3 (elements c.args.p) sized
-    (first_kept c.args.p seven c.requires.0 (power c.args.base c.args.from)
-    (c.powers-started.ensures ∙ ap (λ (x : ℕ). powers_given x c.args.p.len) c.power_of.ensures)
-    c.multiply_pointwise-first.ensures) in
-    omega (arith, sized, c.requires.0, kept_size (elements c.args.p) (omega (arith, sized, c.requires.0)) (power c.args.base c.loop-e.e) reached.0)
+pub returns-in_err-elements : goal.returns-in_err-elements
+returns-in_err-elements c =
+    let sized = kept_size (elements c.args.p.now) (elements_short c.args.p.now c.requires.0) (power c.args.base c.loop-e.e) c.loop-e.invariant.0 in
+    let over = (shown_err c.loop-e.terms _ c.in_err-elements.ensures).0 in
+    absurd (omega (arith, elements_short c.args.p.now c.requires.0))
 
-pub returns-then-sum_of-eq0 : goal.returns-then-sum_of-eq0
-returns-then-sum_of-eq0 c =
-    let seven : length c.args.p.items ≡ 7 = search rules in
-    let sized : length (elements c.args.p) ≡ c.args.p.len = sym (prefix_length c.args.p.len c.args.p.items seven c.requires.0) in
-    let reached : Reached (elements c.args.p) c.args.base c.args.from c.loop-e.e c.loop-e.terms = c.loop-e.invariant.3 (elements c.args.p) sized
-    (first_kept c.args.p seven c.requires.0 (power c.args.base c.args.from)
-    (c.powers-started.ensures ∙ ap (λ (x : ℕ). powers_given x c.args.p.len) c.power_of.ensures)
-    c.multiply_pointwise-first.ensures) in
-    root_end (elements c.args.p) c.args.p.len sized c.requires.0 c.args.base c.loop-e.e reached.0
-    c.sum_of.ensures c.loop-e-test.true c.if-sum_of-eq0.true
-    ∙ reached.1
+pub returns-then-total_of-eq0 : goal.returns-then-total_of-eq0
+returns-then-total_of-eq0 c =
+    let p = c.args.p.now in
+    let shown = shown_ok c.loop-e.terms _ c.in_ok-elements.ensures in
+    ap Ok (some_after (elements p) c.args.base c.args.from c.loop-e.e c.loop-e-test.true
+    (root_end (elements p) (elements_short p c.requires.0) c.args.base c.loop-e.e c.loop-e.invariant.0
+    (c.total_of.ensures ∙ ap (λ l. value_at l 1) shown.1) c.loop-e-test.true c.if-total_of-eq0.true
+    ∙ c.loop-e.invariant.1))
+
+pub returns-in_err-multiply_pointwise-2 : goal.returns-in_err-multiply_pointwise-2
+returns-in_err-multiply_pointwise-2 c =
+    let p = c.args.p.now in
+    let shown = shown_ok c.loop-e.terms _ c.in_ok-elements.ensures in
+    let turn = root_turn (elements p) (elements_short p c.requires.0) c.args.base c.loop-e.e c.loop-e.invariant.0
+    (c.total_of.ensures ∙ ap (λ l. value_at l 1) shown.1) c.loop-e-test.true
+    (powers_for p (omega arith) c.requires.0 c.args.base c.in_ok-step.ensures) c.if-total_of-eq0.false in
+    absurd (accepts c.loop-e.terms turn.0 c.in_err-multiply_pointwise-2.ensures.result)
 
 pub loop-e-preserved : goal.loop-e-preserved
-loop-e-preserved c = (
-  search rules,
-  c.requires.0,
-  c.loop-e.invariant.2,
-  λ cs size first.
-      let before = c.loop-e.invariant.3 cs size first in
-      let turned = root_turn cs c.args.p.len size c.requires.0 c.args.base c.loop-e.e before.0
-      c.sum_of.ensures c.loop-e-test.true c.loop-e.invariant.2 c.if-sum_of-eq0.false c.multiply_pointwise-next.ensures in
-      (turned.0, turned.1 ∙ before.1),
-)
+loop-e-preserved c =
+    let p = c.args.p.now in
+    let shown = shown_ok c.loop-e.terms _ c.in_ok-elements.ensures in
+    let turn = root_turn (elements p) (elements_short p c.requires.0) c.args.base c.loop-e.e c.loop-e.invariant.0
+    (c.total_of.ensures ∙ ap (λ l. value_at l 1) shown.1) c.loop-e-test.true
+    (powers_for p (omega arith) c.requires.0 c.args.base c.in_ok-step.ensures) c.if-total_of-eq0.false in
+    (left_made c.loop-e.terms turn.0 c.multiply_pointwise-in-loop-e.ensures.list, turn.1 ∙ c.loop-e.invariant.1)
 
 pub returns : goal.returns
 returns c =
-    let seven : length c.args.p.items ≡ 7 = search rules in
-    let sized : length (elements c.args.p) ≡ c.args.p.len = sym (prefix_length c.args.p.len c.args.p.items seven c.requires.0) in
-    let reached : Reached (elements c.args.p) c.args.base c.args.from c.loop-e.e c.loop-e.terms = c.loop-e.invariant.3 (elements c.args.p) sized
-    (first_kept c.args.p seven c.requires.0 (power c.args.base c.args.from)
-    (c.powers-started.ensures ∙ ap (λ (x : ℕ). powers_given x c.args.p.len) c.power_of.ensures)
-    c.multiply_pointwise-first.ensures) in
-    root_nowhere (elements c.args.p) c.args.base c.loop-e.e c.loop-e-test.false ∙ reached.1
+    let cs = elements c.args.p.now in
+    let end = root_nowhere cs c.args.base c.loop-e.e c.loop-e-test.false in
+    ap Ok (none_after cs c.args.base c.args.from (omega (arith, end, c.loop-e.invariant.1)))

@@ -1,31 +1,24 @@
--- `zero_is_root` meets its promise: the value at zero is the constant term.
+-- `zero_is_root` meets its promise, exit by exit.
 use mathlib.Core.Path.{sym, ap, ◌∙◌}
-use borrow.Author.Tests.{eq-eqb, ne_eqb, lt-ltb, le-ltb}
-use Rattle.fieldvec.specs.Lists.{elements}
+use Rattle.std.specs.Prelude.{Ok}
+use Rattle.std.proofs.lemmas.Result.{err_from_is_err_and}
+use Rattle.fieldvec.proofs.Laws.{shown_ok, exit}
 use Prim.Native.Nat.{ℕ, ◌%◌}
-use Rattle.polynomial.specs.Polynomials.{value_at}
-use Rattle.polynomial.specs.Answers.{zero_is_root}
+use lib.Dec.{eqb}
+use Rattle.polynomial.specs.Polynomials.{is_root}
 use Rattle.polynomial.proofs.Values.{value_at_zero}
+use Rattle.polynomial.specs.Answers.{zero_is_root}
+use Rattle.polynomial.proofs.About.{about_outside, about_whole}
 use Rattle.polynomial.proofs.zero_is_root.Goals as goal
 
-pub returns-then-n-gt-CAPACITY : goal.returns-then-n-gt-CAPACITY
+pub returns-in_err-elements : goal.returns-in_err-elements
 unfolding zero_is_root
-returns-then-n-gt-CAPACITY c = rw (lt-ltb _ _ c.if-n-gt-CAPACITY.true)
+returns-in_err-elements c =
+    let out = exit c.args.p.now _ c.from_residual.result (err_from_is_err_and c.from_residual.result c.from_residual.ensures.1) c.in_err-elements.ensures in
+    out.1 ∙ sym (about_outside c.args.p.now (λ l. Ok (is_root l 0)) out.0)
 
-pub returns-then-coefficient_at-eq0 : goal.returns-then-coefficient_at-eq0
+pub returns : goal.returns
 unfolding zero_is_root
-returns-then-coefficient_at-eq0 c =
-    rw (
-      le-ltb _ _ c.if-n-gt-CAPACITY.false,
-      eq-eqb (value_at (elements c.args.p) 0) 0
-          (value_at_zero (elements c.args.p) ∙ ap (λ (v : ℕ). v % 1024) (sym c.coefficient_at.ensures) ∙ c.if-coefficient_at-eq0.true),
-    )
-
-pub returns-else-coefficient_at-eq0 : goal.returns-else-coefficient_at-eq0
-unfolding zero_is_root
-returns-else-coefficient_at-eq0 c =
-    rw (
-      le-ltb _ _ c.if-n-gt-CAPACITY.false,
-      ne_eqb (value_at (elements c.args.p) 0) 0
-          (λ e. c.if-coefficient_at-eq0.false (ap (λ (v : ℕ). v % 1024) c.coefficient_at.ensures ∙ sym (value_at_zero (elements c.args.p)) ∙ e)),
-    )
+returns c =
+    let shown = shown_ok c.args.p.now _ c.in_ok-elements.ensures in
+    ap Ok (ap (λ (v : ℕ). eqb v 0) (ap (λ (v : ℕ). v % 1024) c.coefficient_at.ensures ∙ sym (value_at_zero c.in_ok-elements.field-0.now)) ∙ ap (λ l. is_root l 0) shown.1) ∙ sym (about_whole c.args.p.now (λ l. Ok (is_root l 0)) shown.0)

@@ -1,9 +1,5 @@
-use Rattle.std.proofs.Common.{rules}
-use Rattle.decode.proofs.Scanning.{begun, one_more, all_passed}
+use Rattle.decode.proofs.Scanning.{one_more, all_passed}
 use Rattle.decode.proofs.scan.joined.Goals as goal
-
-pub loop-byte-init : goal.loop-byte-init
-loop-byte-init c = search (rules, begun)
 
 pub loop-byte-preserved : goal.loop-byte-preserved
 loop-byte-preserved c = one_more _ _ _ _ _ _ c.type_inv.bytes c.in-Some.ensures.steps c.class-classes.ensures c.loop-byte.invariant

@@ -1,9 +1,6 @@
-use Rattle.std.proofs.Common.{◌∙◌, arith, rules}
-use Rattle.decode.proofs.Scanning.{none_begun, none_more, stopped, ended}
+use Rattle.std.proofs.Common.{◌∙◌, arith}
+use Rattle.decode.proofs.Scanning.{none_more, stopped, ended}
 use Rattle.decode.proofs.scan.scan_data.Goals as goal
-
-pub loop-at-init : goal.loop-at-init
-loop-at-init c = (search (rules, none_begun), search rules)
 
 pub loop-at-preserved : goal.loop-at-preserved
 loop-at-preserved c = (
@@ -13,7 +10,8 @@ loop-at-preserved c = (
 
 pub returns-then-byte-eq-SEPARATOR : goal.returns-then-byte-eq-SEPARATOR
 returns-then-byte-eq-SEPARATOR c =
-    stopped _ _ _ _ _ _ c.in-Some.ensures.steps.1.0 (omega (arith, c.in-Some.ensures.steps.1.1, c.loop-at.invariant.1)) c.if-byte-eq-SEPARATOR.true c.loop-at.invariant.0
+    stopped _ _ _ _ _ _ c.in-Some.ensures.steps.1.0 (omega (arith, c.in-Some.ensures.steps.1.1, c.loop-at.invariant.1))
+    c.if-byte-eq-SEPARATOR.true c.loop-at.invariant.0
 
 pub returns : goal.returns
 returns c = ended _ _ _ c.in-None.ensures.steps.1.0 c.loop-at.invariant.0

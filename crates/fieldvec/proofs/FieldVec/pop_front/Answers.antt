@@ -5,31 +5,31 @@ use lib.ListN.{length}
 use borrow.Author.Rules.{rules}
 use Rattle.std.proofs.lemmas.Result.{err_from_is_err_and}
 use Rattle.fieldvec.proofs.Build.{listed_is}
-use Rattle.fieldvec.proofs.Laws.{shown_ok, exit, refuses, changes, elements_length, popped_front_outside, popped_front_none, popped_front_first}
+use Rattle.fieldvec.proofs.Laws.{shown_ok, exit, refuses, changes, elements_short, popped_front_outside, popped_front_none, popped_front_first}
 use Rattle.fieldvec.proofs.FieldVec.pop_front.Goals as goal
 
 pub returns-in_err-elements : goal.returns-in_err-elements
 returns-in_err-elements c =
-    let out = exit c.args.self.now c.from_residual.result (err_from_is_err_and c.from_residual.result c.from_residual.ensures.1) c.in_err-elements.ensures in
+    let out = exit c.args.self.now _ c.from_residual.result (err_from_is_err_and c.from_residual.result c.from_residual.ensures.1) c.in_err-elements.ensures in
     refuses c.args.self.now out.1 (popped_front_outside c.args.self.now out.0)
 
 pub returns-in_default : goal.returns-in_default
 returns-in_default c =
-    let shown = shown_ok c.args.self.now c.in_ok-elements.ensures in
+    let shown = shown_ok c.args.self.now _ c.in_ok-elements.ensures in
     refuses c.args.self.now refl (popped_front_none c.args.self.now (omega arith) shown.0 (rw shown.1 at c.in_default.ensures.cases))
 
 pub listed_by-requires-clause-room : goal.listed_by-requires-clause-room
 listed_by-requires-clause-room c =
-    let shown = shown_ok c.args.self.now c.in_ok-elements.ensures in
+    let shown = shown_ok c.args.self.now _ c.in_ok-elements.ensures in
     let places = rw shown.1 at c.in-Some.ensures.cases.1 in
-    omega (arith, elements_length c.args.self.now (omega arith) shown.0)
+    omega (arith, elements_short c.args.self.now shown.0)
 
 pub returns : goal.returns
 returns c =
-    let shown = shown_ok c.args.self.now c.in_ok-elements.ensures in
+    let shown = shown_ok c.args.self.now _ c.in_ok-elements.ensures in
     let places = rw shown.1 at c.in-Some.ensures.cases.1 in
     changes c.args.self.now
     (popped_front_first c.args.self.now (omega arith) shown.0 c.in-Some.rest.now c.in-Some.first.now c.widened-value.result c.listed_by.result
     (sym shown.1 ∙ c.in-Some.ensures.cases.0) c.widened-value.ensures
     (listed_is _ c.listed_by.result (length c.in-Some.rest.now) c.in-Some.rest.now c.listed_by.ensures
-    (omega (arith, elements_length c.args.self.now (omega arith) shown.0)) refl (λ k v h e. search rules)))
+    (omega (arith, elements_short c.args.self.now shown.0)) refl (λ k v h e. search rules)))

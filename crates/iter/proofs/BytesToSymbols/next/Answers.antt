@@ -19,5 +19,6 @@ unfolding symbol_step after_symbol
 returns c =
     let walk = c.args.self.now in
     let counted = c.symbols_for_bytes in
-    let value = at_value (to_symbols walk.bytes.now) walk.at counted.result counted.ensures c.if-symbols_for_bytes-self.false c.symbol_at-symbol.result c.symbol_at-symbol.ensures in
+    let given = c.symbol_at-symbol in
+    let value = at_value (to_symbols walk.bytes.now) walk.at counted.result counted.ensures c.if-symbols_for_bytes-self.false given.result given.ensures in
     record { given = value.0; left = ap (λ (at : ℕ). record walk { at = at }) value.1 }

@@ -1,9 +1,0 @@
--- `list` is safe and ends: the place goes up to the count.
-use Rattle.std.proofs.Common.{◌-◌, ◌≤◌}
-use Rattle.field_replay.proofs.list.Given as goal
-
-abbrev pub invariant-loop-i : goal.invariant-loop-i
-invariant-loop-i g l = l.i ≤ l.n
-
-abbrev pub decreases-loop-i : goal.decreases-loop-i
-decreases-loop-i g l = l.n - l.i

@@ -1,9 +1,0 @@
--- `polynomial_of` is safe and ends: the place goes up to the count.
-use Rattle.std.proofs.Common.{◌-◌, ◌≤◌}
-use Rattle.field_replay.proofs.polynomial_of.Given as goal
-
-abbrev pub invariant-loop-i : goal.invariant-loop-i
-invariant-loop-i l = l.i ≤ l.n
-
-abbrev pub decreases-loop-i : goal.decreases-loop-i
-decreases-loop-i l = l.n - l.i

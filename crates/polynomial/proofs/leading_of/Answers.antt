@@ -1,5 +1,0 @@
--- The coefficient at the degree.
-use Rattle.polynomial.proofs.leading_of.Goals as goal
-
-pub returns : goal.returns
-returns c = cc
