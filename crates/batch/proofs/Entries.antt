@@ -1,13 +1,11 @@
 -- One entry: what its verdict is inside the buffer and outside it. The code compares start and length without their sum, the definition by it.
 -- A list of entries: what its verdict is up to the limit and over it.
-use mathlib.Core.Path.{◌≡◌, refl}
+use mathlib.Core.Path.{◌≡◌}
 use mathlib.Core.List.{List}
-use Prim.Native.Nat.{ℕ, ◌+◌, ◌-◌, ◌<◌, ◌≤◌}
-use native.Mathlib.Omega.{arith}
+use Prim.Native.Nat.{ℕ, ◌+◌, ◌<◌, ◌≤◌}
 use borrow.Author.Tests.{lt-ltb, le-ltb}
-use lib.ListN.{length, take, drop}
-use Rattle.answers.specs.Reading.{address_verdict}
-use Rattle.batch.specs.Batch.{entry_verdict, judged, judged_as, batch_verdict}
+use lib.ListN.{length}
+use Rattle.batch.specs.Batch.{entry_verdict, batch_verdict}
 use Rattle.batch.specs.declared.Entry.{Entry}
 use Rattle.numbers.specs.declared.Refusal.TheVariants.{BatchLong, EntryOutside}
 use Rattle.std.specs.Prelude.{Ok, Err}

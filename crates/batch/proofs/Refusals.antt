@@ -16,7 +16,7 @@ use Rattle.batch.specs.Batch.{entry_verdict, batch_verdict}
 use Rattle.batch.specs.declared.Entry.{Entry}
 use Rattle.batch.proofs.Entries.{many_refused, reaches_outside}
 use Rattle.numbers.specs.declared.Refusal.TheVariants.{BatchLong, EntryOutside}
-use Rattle.std.specs.Prelude.{Ok, Err}
+use Rattle.std.specs.Prelude.{Err}
 
 pub batch_19 : (entries : List Entry) → (batch_verdict entries ≡ Err BatchLong) ↔ (32 < length entries)
 unfolding batch_verdict

@@ -146,8 +146,8 @@ fn answer_length(number: u8) -> usize
     3
 }
 
-// A number in decimal, and a line end, at this place of the output; what comes back is the place after it. By hand, as itoa and `write!` are no plainer
-// for two digits at most: the first asks for a bound on the number, and neither tells beforehand whether there is room.
+// A number in decimal, and a line end, at this place of the output; what comes back is the place after it. By hand: of two digits at most
+// itoa is no plainer, with a buffer of its own, a copy out of it, and a bound on the number to be shown.
 fn put(number: u8, out: &mut [u8], at: usize) -> usize
     requires { at + answer_length number ≤ length out.old }
     ensures { (result ≡ at + length (decimal number ++ 10 ∷ [])) × (out.new ≡ sets out.old at (decimal number ++ 10 ∷ [])) }
