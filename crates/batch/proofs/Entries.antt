@@ -4,7 +4,8 @@ use mathlib.Core.Path.{◌≡◌}
 use mathlib.Core.List.{List}
 use Prim.Native.Nat.{ℕ, ◌+◌, ◌<◌, ◌≤◌}
 use borrow.Author.Tests.{lt-ltb, le-ltb}
-use lib.ListN.{length}
+use lib.ListN.{length, take, drop}
+use Rattle.answers.specs.Reading.{address_verdict}
 use Rattle.batch.specs.Batch.{entry_verdict, batch_verdict}
 use Rattle.batch.specs.declared.Entry.{Entry}
 use Rattle.numbers.specs.declared.Refusal.TheVariants.{BatchLong, EntryOutside}
@@ -26,3 +27,7 @@ module _ (buffer : List ℕ) (e : Entry) where
   pub reaches_outside : length buffer < e.start + e.len → Err EntryOutside ≡ entry_verdict buffer e
   unfolding entry_verdict
   reaches_outside h = rw (lt-ltb (length buffer) (e.start + e.len) h)
+
+  pub stays_inside : e.start + e.len ≤ length buffer → address_verdict (take e.len (drop e.start buffer)) ≡ entry_verdict buffer e
+  unfolding entry_verdict
+  stays_inside h = rw (le-ltb (length buffer) (e.start + e.len) h)
