@@ -36,6 +36,10 @@ module _ (constant : ℕ) (s : List ℕ) where
   unfolding read_verdict data_short checksum_wrong
   in_stages = refl
 
+  sum_rules_lem : Ok tt ≡ sum_verdict constant (prefix_part s) (data_part s) → NoneApplies last_rules
+  unfolding sum_verdict
+  sum_rules_lem checked = (accepted_only tt tt last_rules (sym checked)).0
+
   pub read_split_refused : (r : Refusal) → Err r ≡ split_verdict s → Err r ≡ read_verdict constant s
   unfolding split_verdict
   read_split_refused r e = stage_refuses (parts_of s) accepted_parts (string_rules s) rest_rules r e ∙ in_stages

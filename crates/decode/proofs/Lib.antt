@@ -5,6 +5,7 @@ pub mod Stages
 pub mod Own
 pub mod Halving
 pub mod Generic
+pub mod Judging
 pub mod Segwit
 pub mod Rooms
 pub mod Handed

@@ -7,7 +7,7 @@ use Rattle.paper.specs.Charset.{symbol}
 use Rattle.paper.specs.Bits.{to_bytes}
 use Rattle.numbers.specs.declared.Refusal.{Refusal}
 use Rattle.numbers.specs.declared.Refusal.TheVariants.{RoomSmall}
-use Rattle.answers.specs.Order.{Rule, ◌gives◌, first_of}
+use Rattle.answers.specs.Order.{Rule, ◌gives◌, first_of, NoneApplies}
 use Rattle.answers.specs.Reading.{prefix_part, payload, payload_symbols, version_of, program_of, room_small, reading_rules, address_rules, read_verdict, read_bytes_verdict, buffer_after, address_verdict, read_address_verdict, program_after, written_into, as_parts, as_address}
 use Rattle.answers.specs.declared.Parts.{Parts}
 use Rattle.answers.specs.declared.Address.{Address}
@@ -15,13 +15,12 @@ use Rattle.answers.proofs.Orders.{accepted_only}
 use Rattle.checksum.specs.Parameters.{constant_for}
 use Rattle.checksum.specs.declared.Checksum.{Checksum}
 use Rattle.iter.specs.Writing.{Wrote}
-use Rattle.decode.specs.Asked.{◌>>=◌}
 use Rattle.decode.specs.Symbols.{read_symbols_verdict}
 use Rattle.decode.specs.Promises.{WasRead, SymbolsRead, BytesRead, AddressRead}
 use Rattle.decode.specs.Places.{Place}
 use Rattle.decode.specs.Halves.{lengths_of, Halved}
 use Rattle.decode.specs.declared.Halves.{Halves}
-use Rattle.decode.proofs.Stages.{staged}
+use Rattle.decode.proofs.Stages.{◌>>=◌, staged}
 use Rattle.decode.proofs.Halving.{read_accepted}
 
 -- ---- generic reading, of any content
@@ -81,6 +80,11 @@ module _ (checksum : Checksum) (s before : List ℕ) where
         record { answer = known.0; buffer = known.1 }
 
 -- ---- segwit reading
+
+-- where it accepts, none of its rules applies
+pub address_rules_lem : (s : List ℕ) (a : Address) → Ok a ≡ address_verdict s → NoneApplies (address_rules s)
+unfolding address_verdict
+address_rules_lem s a read = (accepted_only (as_address (version_of s) (length (program_of s))) a (address_rules s) (sym read)).0
 
 module _ (s before : List ℕ) where
   abbrev address : Address

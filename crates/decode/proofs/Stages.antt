@@ -5,7 +5,12 @@ use Rattle.std.proofs.Common.{refl}
 use Rattle.laws.specs.Pick.{pick}
 use Rattle.numbers.specs.declared.Refusal.{Refusal}
 use Rattle.answers.specs.Order.{Rule, ◌gives◌, first_of, NoneApplies}
-use Rattle.decode.specs.Asked.{◌>>=◌}
+
+-- what is asked next where nothing was refused, as `?` does it
+infixl 10 ◌>>=◌
+abbrev pub ◌>>=◌ : {A B : Type 0} → Result A Refusal → (A → Result B Refusal) → Result B Refusal
+Ok a >>= next = next a
+Err refusal >>= next = Err refusal
 
 -- rules that do not apply may be left out
 pub rest_decides : {A : Type 0} (rules more : List Rule) (accepted : A) → NoneApplies rules → first_of more accepted ≡ first_of (rules ++ more) accepted

@@ -1,23 +1,16 @@
 -- What the private functions of reading ask, each of the part that it is given: the rules that answers' Reading asks of the whole string.
-use Rattle.std.specs.Prelude.{not, List, [], ◌∷◌, map, ℕ, ◌-◌, eqb, ltb, length, take, drop, get_or, Result, Ok, Err, ⊤}
+use Rattle.std.specs.Prelude.{not, List, [], ◌∷◌, ◌++◌, map, ℕ, ◌-◌, eqb, ltb, length, take, drop, get_or, Result, ⊤}
 use Rattle.paper.specs.Charset.{symbol}
-use Rattle.paper.specs.Checksum.{residue}
+use Rattle.paper.specs.Checksum.{residue, constant_of}
 use Rattle.paper.specs.Bits.{to_bytes}
-use Rattle.checksum.specs.Parameters.{constant_for, checksum_for}
 use Rattle.answers.specs.Order.{Rule, ◌gives◌, first_of}
-use Rattle.answers.specs.Rules.{version_unknown, padding_verdict, length_verdict}
+use Rattle.answers.specs.Rules.{version_unknown, padding_long, padding_not_zero, length_wrong, length_wrong_for0}
 use Rattle.answers.specs.Reading.{string_rules, longer_than, as_address}
 use Rattle.decode.specs.Splitting.{parts_of}
 use Rattle.numbers.specs.declared.Refusal.{Refusal}
-use Rattle.numbers.specs.declared.Refusal.TheVariants.{DataShort, ChecksumWrong, AddressLong, NoData, VersionUnknown}
+use Rattle.numbers.specs.declared.Refusal.TheVariants.{DataShort, ChecksumWrong, AddressLong, NoData, VersionUnknown, PaddingLong, PaddingNotZero, ProgramLength, ProgramLengthVersion0}
 use Rattle.answers.specs.declared.Parts.{Parts}
 use Rattle.answers.specs.declared.Address.{Address}
-
--- what is asked next where nothing was refused, as `?` does it
-infixl 10 ◌>>=◌
-abbrev pub ◌>>=◌ : {A B : Type 0} → Result A Refusal → (A → Result B Refusal) → Result B Refusal
-Ok a >>= next = next a
-Err refusal >>= next = Err refusal
 
 -- 10, and then 1 to 6
 abbrev pub address_split_rules : List ℕ → List Rule
@@ -58,16 +51,23 @@ payload_in characters = take (length characters - 6) characters
 unfoldable pub program_in : List ℕ → List ℕ
 program_in characters = drop 1 (payload_in characters)
 
--- 11 again
-unfoldable pub payload_verdict : List ℕ → Result ⊤ Refusal
-payload_verdict characters = first_of (eqb (length characters) 6 gives NoData ∷ []) tt
+-- 13 and 14, 15 and 16
+abbrev pub padding_rules : List ℕ → List Rule
+padding_rules symbols = padding_long symbols gives PaddingLong ∷ padding_not_zero symbols gives PaddingNotZero ∷ []
 
--- segwit reading after 10 and 1 to 6: 11 and 12, 8 and 9, 11 again, 13 and 14, 15 and 16
+abbrev pub length_rules : ℕ → List ℕ → List Rule
+length_rules version symbols =
+    length_wrong (length (to_bytes symbols)) gives ProgramLength
+    ∷ length_wrong_for0 version (length (to_bytes symbols)) gives ProgramLengthVersion0
+    ∷ []
+
+-- segwit reading after 10 and 1 to 6
 unfoldable pub judgement : List ℕ → List ℕ → Result Address Refusal
-judgement prefix characters = do
-  version ← version_given characters
-  _ ← sum_verdict (constant_for (checksum_for version)) prefix characters
-  _ ← payload_verdict characters
-  _ ← padding_verdict (map symbol (program_in characters))
-  _ ← length_verdict version (length (to_bytes (program_in characters)))
-  Ok (as_address version (length (to_bytes (program_in characters))))
+judgement prefix characters =
+    first_of
+    (version_rules characters
+    ++ sum_rules (constant_of (version_in characters)) prefix characters
+    ++ eqb (length (payload_in characters)) 0 gives NoData
+    ∷ padding_rules (map symbol (program_in characters))
+    ++ length_rules (version_in characters) (map symbol (program_in characters)))
+    (as_address (version_in characters) (length (to_bytes (map symbol (program_in characters)))))

@@ -94,7 +94,7 @@ pub fn check_address(s: &[u8]) -> Result<Address, Refusal>
 }
 
 // Segwit reading: the program, which starts after the version, goes into the lent buffer.
-#[tactic(auto, using(crate::proofs::Rooms::address_refused, crate::proofs::Segwit::address_split_refused, crate::proofs::Segwit::judged_enough))]
+#[tactic(auto, using(crate::proofs::Rooms::address_refused, crate::proofs::Segwit::address_split_refused, crate::proofs::Judging::judged_enough))]
 pub fn read_address(s: &[u8], out: &mut [u8]) -> Result<Address, Refusal>
     ensures { AddressRead s.now out.old result out.new }
 {
@@ -180,7 +180,7 @@ fn address_halves(s: &[u8]) -> Result<Halves, Refusal>
 }
 
 // What segwit reading asks of a prefix and of the characters after the separator, in document 01's order, in which 11 comes twice.
-#[tactic(auto, using(crate::proofs::Asked::sum_enough), unfolding(crate::specs::Asked::judgement, crate::specs::Asked::payload_verdict))]
+#[tactic(auto, using(crate::proofs::Asked::sum_enough))]
 fn judge(halves: Halves) -> Result<Address, Refusal>
     ensures { result ≡ judgement halves.entry.prefix.now halves.entry.characters.now }
 {
