@@ -30,10 +30,14 @@ taproot_text = bytes "bc1pdp43hj65vxw49rts6kcw35u6r6tgzguyr03vvveeewjqpn05efzq7u
 
 -- the first reaches one byte too far, the second is the whole text; what their results held before is overwritten
 abbrev pub two_entries : List Entry
-two_entries = record { start = 1; len = 62; verdict = 0; version = 1; program = 32 } ∷ record { start = 0; len = 62; verdict = 99; version = 99; program = 99 } ∷ []
+two_entries =
+    record { start = 1; len = 62; verdict = 0; version = 1; program = 32 }
+    ∷ record { start = 0; len = 62; verdict = 99; version = 99; program = 99 } ∷ []
 
 abbrev pub two_judged : List Entry
-two_judged = record { start = 1; len = 62; verdict = 20; version = 0; program = 0 } ∷ record { start = 0; len = 62; verdict = 0; version = 1; program = 32 } ∷ []
+two_judged =
+    record { start = 1; len = 62; verdict = 20; version = 0; program = 0 }
+    ∷ record { start = 0; len = 62; verdict = 0; version = 1; program = 32 } ∷ []
 
 two_computed : map (judged taproot_text) two_entries ≡ two_judged
 unfolding computing entry_verdict judged taproot_text

@@ -53,7 +53,8 @@ pub address_asks_the_room : (after : List ℕ) → AddressWritten (bytes "bc") 0
 unfolding computing
 address_asks_the_room after p = err_apart 42 RoomSmall (sym p.answer)
 
-pub address_of_its_version : (r : Result ℕ Refusal) (rest : List ℕ) → AddressWritten (bytes "bc") 1 (replicate 32 0) (replicate 62 0) r (bytes "bc1q" ++ rest) → ⊥
+pub address_of_its_version : (r : Result ℕ Refusal) (rest : List ℕ)
+    → AddressWritten (bytes "bc") 1 (replicate 32 0) (replicate 62 0) r (bytes "bc1q" ++ rest) → ⊥
 unfolding computing at
 address_of_its_version r rest p = let e : ◌≡◌ {A = ℕ} 113 112 = ap (at 3) p.buffer in omega arith
 

@@ -31,7 +31,8 @@ symbols_written_once checksum prefix symbols before r s after after' p q = wrote
 -- encode::write_bytes
 abbrev pub BytesWritten : Checksum → List ℕ → List ℕ → List ℕ → Result ℕ Refusal → List ℕ → Type 0
 BytesWritten checksum prefix bytes before r after =
-    Wrote (write_bytes_verdict (constant_for checksum) prefix bytes (length before)) (written_string (constant_for checksum) prefix (to_symbols bytes)) before r after
+    Wrote (write_bytes_verdict (constant_for checksum) prefix bytes (length before))
+    (written_string (constant_for checksum) prefix (to_symbols bytes)) before r after
 
 pub bytes_written_once : (checksum : Checksum) (prefix bytes before : List ℕ) (r s : Result ℕ Refusal) (after after' : List ℕ)
     → BytesWritten checksum prefix bytes before r after → BytesWritten checksum prefix bytes before s after' → (r ≡ s) × (after ≡ after')

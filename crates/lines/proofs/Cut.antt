@@ -40,4 +40,4 @@ digits_length false x y z = omega arith
 pub answer_length_lem : (l : List ℕ) → length (answer_to l) ≤ 3
 unfolding answer_to
 answer_length_lem l =
-    digits_length (ltb (number_in (address_verdict l)) 10) (48 + number_in (address_verdict l)) (48 + number_in (address_verdict l) / 10) (48 + number_in (address_verdict l) % 10)
+    let n : ℕ = number_in (address_verdict l) in digits_length (ltb n 10) (48 + n) (48 + n / 10) (48 + n % 10)

@@ -18,19 +18,22 @@ use Rattle.std.specs.Prelude.{Result, Ok, Err}
 -- ---- feed
 
 -- a line buffer of 90 bytes, and nothing said of it
-pub feed_short_line : (t w l : ℕ) (line_after out_after : List ℕ) → WasFed (97 ∷ []) (replicate 90 0) 0 (replicate 3 0) (Ok (as_fed t w l)) line_after out_after → ⊥
+pub feed_short_line : (t w l : ℕ) (line_after out_after : List ℕ)
+    → WasFed (97 ∷ []) (replicate 90 0) 0 (replicate 3 0) (Ok (as_fed t w l)) line_after out_after → ⊥
 unfolding fed_refused
 feed_short_line t w l line_after out_after p =
     err_apart (as_fed t w l) RoomSmall (sym p.answer)
 
 -- the answer 3 and a line end in one byte of room, and nothing said of it
-pub feed_no_room : (t w l : ℕ) (line_after out_after : List ℕ) → WasFed (10 ∷ []) (replicate 91 0) 0 (replicate 1 0) (Ok (as_fed t w l)) line_after out_after → ⊥
+pub feed_no_room : (t w l : ℕ) (line_after out_after : List ℕ)
+    → WasFed (10 ∷ []) (replicate 91 0) 0 (replicate 1 0) (Ok (as_fed t w l)) line_after out_after → ⊥
 unfolding computing fed_refused start kept_count stuck full answer_to
 feed_no_room t w l line_after out_after p =
     err_apart (as_fed t w l) RoomSmall (sym p.answer)
 
 -- and in two, for which there is room
-pub feed_two_bytes : (refusal : Refusal) (line_after out_after : List ℕ) → WasFed (10 ∷ []) (replicate 91 0) 0 (replicate 2 0) (Err refusal) line_after out_after → ⊥
+pub feed_two_bytes : (refusal : Refusal) (line_after out_after : List ℕ)
+    → WasFed (10 ∷ []) (replicate 91 0) 0 (replicate 2 0) (Err refusal) line_after out_after → ⊥
 unfolding computing fed fed_from fed_refused start kept_count stuck full answered passed answer_to
 feed_two_bytes refusal line_after out_after p = err_apart (as_fed 1 2 0) refusal p.answer
 

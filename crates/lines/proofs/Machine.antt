@@ -45,7 +45,8 @@ kept_joined (c ∷ s) t k = kept_joined_at c s t k (eqb c 10) refl (kept_joined 
 said_joined_at : (c : ℕ) (s t k : List ℕ) (b : Bool) → eqb c 10 ≡ b
     → ((k : List ℕ) → said (s ++ t) k ≡ said s k ++ said t (kept_after s k))
     → said (c ∷ s ++ t) k ≡ said (c ∷ s) k ++ said t (kept_after (c ∷ s) k)
-said_joined_at c s t k true e ih = rw e (ap (λ (l : List ℕ). answer_to k ++ l) (ih []) ∙ sym (append_assoc (answer_to k) (said s []) (said t (kept_after s []))))
+said_joined_at c s t k true e ih =
+    rw e (ap (λ (l : List ℕ). answer_to k ++ l) (ih []) ∙ sym (append_assoc (answer_to k) (said s []) (said t (kept_after s []))))
 said_joined_at c s t k false e ih = rw e (ih (kept_with c k))
 
 pub said_joined : (s t k : List ℕ) → said (s ++ t) k ≡ said s k ++ said t (kept_after s k)

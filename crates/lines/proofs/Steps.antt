@@ -55,15 +55,20 @@ module _ (s line : List ℕ) (len : ℕ) (out : List ℕ) (written i : ℕ) (who
   next : i < length s → drop i s ≡ get_or s i 0 ∷ drop (i + 1) s
   next h = rw (add-one, drop-cons s i 0 h)
 
-  kept_turned : i < length s → (get_or s i 0 ≡ 10 → ⊥) → fed_from (drop (i + 1) s) (standing (i + 1) (line_with (get_or s i 0) line len) (count_with len) out written) ≡ fed_from (drop i s) (standing i line len out written)
+  kept_turned : i < length s → (get_or s i 0 ≡ 10 → ⊥)
+      → fed_from (drop (i + 1) s) (standing (i + 1) (line_with (get_or s i 0) line len) (count_with len) out written)
+      ≡ fed_from (drop i s) (standing i line len out written)
   unfolding fed_from kept passed
   kept_turned h d = rw (next h, ne_eqb (get_or s i 0) 10 d)
 
-  pub kept_turn : Left → i < length s → (get_or s i 0 ≡ 10 → ⊥) → (line' : List ℕ) (len' : ℕ) → len' ≡ count_with len → line' ≡ line_with (get_or s i 0) line len
+  pub kept_turn : Left → i < length s → (get_or s i 0 ≡ 10 → ⊥) → (line' : List ℕ) (len' : ℕ) → len' ≡ count_with len
+      → line' ≡ line_with (get_or s i 0) line len
       → fed_from (drop (i + 1) s) (standing (i + 1) line' len' out written) ≡ whole
   kept_turn w h d line' len' p q = rw (p, q) (kept_turned h d ∙ w)
 
-  answered_turned : i < length s → get_or s i 0 ≡ 10 → length (answer_to (take len line)) ≤ length out - written → fed_from (drop (i + 1) s) (standing (i + 1) line 0 (sets out written (answer_to (take len line))) (written + length (answer_to (take len line)))) ≡ fed_from (drop i s) (standing i line len out written)
+  answered_turned : i < length s → get_or s i 0 ≡ 10 → length (answer_to (take len line)) ≤ length out - written
+      → fed_from (drop (i + 1) s) (standing (i + 1) line 0 (sets out written (answer_to (take len line))) (written + length (answer_to (take len line))))
+      ≡ fed_from (drop i s) (standing i line len out written)
   unfolding fed_from answered passed full
   answered_turned h e m = rw (next h, eq-eqb (get_or s i 0) 10 e, le-ltb (length out - written) (length (answer_to (take len line))) m)
 
@@ -75,7 +80,8 @@ module _ (s line : List ℕ) (len : ℕ) (out : List ℕ) (written i : ℕ) (who
       let q = answer_put (take len line) out out' written n written' a p in
       rw (q.0, q.1) (answered_turned h e (omega (arith, length_told (take len line) n size a b)) ∙ w)
 
-  stopped_here : i < length s → get_or s i 0 ≡ 10 → length out - written < length (answer_to (take len line)) → standing i line len out written ≡ fed_from (drop i s) (standing i line len out written)
+  stopped_here : i < length s → get_or s i 0 ≡ 10 → length out - written < length (answer_to (take len line))
+      → standing i line len out written ≡ fed_from (drop i s) (standing i line len out written)
   unfolding fed_from full
   stopped_here h e m = rw (drop-cons s i 0 h, eq-eqb (get_or s i 0) 10 e, lt-ltb (length out - written) (length (answer_to (take len line))) m)
 

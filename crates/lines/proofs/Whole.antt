@@ -94,7 +94,16 @@ kept_case c st h false e =
 -- ---- feeding is the machine on what was taken
 
 nothing : (s : List ℕ) (st : Standing) → Sound st → Ran s st st
-nothing s st h = record { n = 0; bound = omega arith; count = sym (add-zero st.taken); keeps = refl; says = sym (append-nil (shown st)); same_room = refl; sound = h }
+nothing s st h =
+    record {
+      n = 0;
+      bound = omega arith;
+      count = sym (add-zero st.taken);
+      keeps = refl;
+      says = sym (append-nil (shown st));
+      same_room = refl;
+      sound = h;
+    }
 
 after_answer : (c : ℕ) (s : List ℕ) (st r : Standing) → Sound st → eqb c 10 ≡ true → full st ≡ false → Ran s (passed (answered st)) r → Ran (c ∷ s) st r
 unfolding passed answered
@@ -149,7 +158,8 @@ fits_byte : (c : ℕ) (s : List ℕ) (st : Standing) → Sound st → (b : Bool)
 unfolding passed answered kept full
 fits_byte c s st h true e ih m =
     let n : st.written + length (answer_to (present st) ++ said s []) ≤ length st.out = rw e at m in
-    let l : length (answer_to (present st) ++ said s []) ≡ length (answer_to (present st)) + length (said s []) = length-append (answer_to (present st)) (said s []) in
+    let l : length (answer_to (present st) ++ said s []) ≡ length (answer_to (present st)) + length (said s []) =
+    length-append (answer_to (present st)) (said s []) in
     let z : length (sets st.out st.written (answer_to (present st))) ≡ length st.out = length-sets st.out st.written (answer_to (present st)) in
     let free : full st ≡ false = le-ltb (length st.out - st.written) (length (answer_to (present st))) (omega arith) in
     rw (fed_answered c s st e free) (omega (arith, ih (passed (answered st)) (sound_answered st h free) (omega arith)))
@@ -263,7 +273,8 @@ whole_run (call ∷ calls) line len room f w m =
     let o : Standing = fed call.piece line len call.room in
     let g : Ran call.piece (standing 0 line len call.room 0) (fed call.piece line len call.room) = ran_call call.piece line len call.room f w in
     let t : take (fed call.piece line len call.room).taken call.piece ≡ take g.n call.piece = ap (λ (i : ℕ). take i call.piece) (g.count ∙ zero-add g.n) in
-    joined (take o.taken call.piece) (taken_in o.line o.len calls) (take len line) (take o.len o.line) (take o.written o.out) (written_out o.line o.len calls room)
+    joined (take o.taken call.piece) (taken_in o.line o.len calls) (take len line) (take o.len o.line)
+    (take o.written o.out) (written_out o.line o.len calls room)
     (g.keeps ∙ ap (λ (l : List ℕ). kept_after l (take len line)) (sym t))
     (g.says ∙ ap (λ (l : List ℕ). said l (take len line)) (sym t))
     (whole_run calls o.line o.len room g.sound.few g.sound.wide m)

@@ -5,15 +5,24 @@ use borrow.Author.Rules.{rules}
 use Rattle.lines.proofs.feed.Goals as goal
 
 pub returns-then-line-lt-KEPT : goal.returns-then-line-lt-KEPT
-returns-then-line-lt-KEPT c = fed_short c.args.input.now c.args.line.now c.args.state.len c.args.out.now c.if-line-lt-KEPT.true
+returns-then-line-lt-KEPT c =
+    let a = c.args in
+    fed_short a.input.now a.line.now a.state.len a.out.now c.if-line-lt-KEPT.true
 
 pub returns-then-is_empty : goal.returns-then-is_empty
-returns-then-is_empty c = fed_empty c.args.input.now c.args.line.now c.args.state.len c.args.out.now _ c.kept_count-len.ensures.value c.if-line-lt-KEPT.false (search rules)
+returns-then-is_empty c =
+    let a = c.args in
+    fed_empty a.input.now a.line.now a.state.len a.out.now _ c.kept_count-len.ensures.value c.if-line-lt-KEPT.false
+    (search rules)
 
 pub returns-then-fed-eq0 : goal.returns-then-fed-eq0
 returns-then-fed-eq0 c =
-    fed_stuck c.args.input.now c.args.line.now c.args.state.len c.args.out.now _ c.kept_count-len.ensures.value c.if-line-lt-KEPT.false _ _ _ (search rules) c.take_bytes-fed.ensures c.if-fed-eq0.true
+    let a = c.args in
+    fed_stuck a.input.now a.line.now a.state.len a.out.now _ c.kept_count-len.ensures.value c.if-line-lt-KEPT.false
+    _ _ _ (search rules) c.take_bytes-fed.ensures c.if-fed-eq0.true
 
 pub returns : goal.returns
 returns c =
-    fed_on c.args.input.now c.args.line.now c.args.state.len c.args.out.now _ c.kept_count-len.ensures.value c.if-line-lt-KEPT.false _ _ _ c.take_bytes-fed.ensures c.if-fed-eq0.false
+    let a = c.args in
+    fed_on a.input.now a.line.now a.state.len a.out.now _ c.kept_count-len.ensures.value c.if-line-lt-KEPT.false
+    _ _ _ c.take_bytes-fed.ensures c.if-fed-eq0.false

@@ -4,15 +4,24 @@ use Rattle.lines.proofs.Steps.{finish_short, finish_none, finish_full, finish_an
 use Rattle.lines.proofs.finish.Goals as goal
 
 pub returns-then-line-lt-KEPT : goal.returns-then-line-lt-KEPT
-returns-then-line-lt-KEPT c = finish_short c.args.line.now c.args.state.len c.args.out.now c.if-line-lt-KEPT.true
+returns-then-line-lt-KEPT c =
+    let a = c.args in
+    finish_short a.line.now a.state.len a.out.now c.if-line-lt-KEPT.true
 
 pub returns-then-len-eq0 : goal.returns-then-len-eq0
-returns-then-len-eq0 c = finish_none c.args.line.now c.args.state.len c.args.out.now _ c.kept_count-len.ensures.value c.if-line-lt-KEPT.false c.if-len-eq0.true
+returns-then-len-eq0 c =
+    let a = c.args in
+    finish_none a.line.now a.state.len a.out.now _ c.kept_count-len.ensures.value c.if-line-lt-KEPT.false
+    c.if-len-eq0.true
 
 pub returns-then-out-answer_length : goal.returns-then-out-answer_length
 returns-then-out-answer_length c =
-    finish_full c.args.line.now c.args.state.len c.args.out.now _ c.kept_count-len.ensures.value c.if-line-lt-KEPT.false c.if-len-eq0.false _ _ c.number_of_line-number.ensures c.answer_length.ensures c.if-out-answer_length.true
+    let a = c.args in
+    finish_full a.line.now a.state.len a.out.now _ c.kept_count-len.ensures.value c.if-line-lt-KEPT.false
+    c.if-len-eq0.false _ _ c.number_of_line-number.ensures c.answer_length.ensures c.if-out-answer_length.true
 
 pub returns : goal.returns
 returns c =
-    finish_answered c.args.line.now c.args.state.len c.args.out.now _ c.kept_count-len.ensures.value c.if-line-lt-KEPT.false c.if-len-eq0.false _ _ c.number_of_line-number.ensures c.answer_length.ensures c.if-out-answer_length.false _ _ c.put.ensures
+    let a = c.args in
+    finish_answered a.line.now a.state.len a.out.now _ c.kept_count-len.ensures.value c.if-line-lt-KEPT.false
+    c.if-len-eq0.false _ _ c.number_of_line-number.ensures c.answer_length.ensures c.if-out-answer_length.false _ _ c.put.ensures
