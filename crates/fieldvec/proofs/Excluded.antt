@@ -1,10 +1,11 @@
 -- Wrong answers that the promises rule out, each one that a slip in the code would give.
 use mathlib.Core.Path.{◌≡◌, ap, sym}
 use mathlib.Core.Bool.{true, false, false≢true}
-use mathlib.Core.List.{[], ◌∷◌}
+use mathlib.Core.List.{List, [], ◌∷◌}
 use Prim.Native.Nat.{ℕ}
 use native.Mathlib.Omega.{arith}
-use lib.ListN.{get_or, replicate}
+use lib.ListN.{length, get_or, replicate}
+use denote.Ref.{Bor}
 use Rattle.std.specs.Prelude.{Result, Ok, Err}
 use Rattle.std.specs.Result.{result_unwrap_or}
 use Rattle.laws.specs.Xor.{◌⊕◌}
@@ -23,18 +24,23 @@ empty_not_counted p = let e : ◌≡◌ {A = ℕ} 1 0 = ap (λ (r : FieldVec). r
 pub empty_not_ones : Emptied (record { items = replicate 7 1; len = 0 }) → ⊥
 empty_not_ones p = let e : ◌≡◌ {A = ℕ} 1 0 = ap (λ (r : FieldVec). get_or r.items 0 0) p in omega arith
 
--- more places shown than are counted, a list shown that counts more than there is room for, and a full list refused
-pub not_every_place : (at : ℕ × ℕ) → Shown (listed (1 ∷ [])) (Ok (record { ref_ptr = at; now = 1 ∷ 0 ∷ [] })) → ⊥
+-- more places shown than are counted, a place that is not the list's, a list shown that counts more than there is room for, and a full list
+-- refused
+pub not_every_place : (place : ℕ × ℕ) → Shown place (listed (1 ∷ [])) (Ok (record { ref_ptr = place; now = 1 ∷ 0 ∷ [] })) → ⊥
 unfolding shown
-not_every_place at p = let e : ◌≡◌ {A = ℕ} 0 1 = cc in omega arith
+not_every_place place p = let e : ◌≡◌ {A = ℕ} 2 1 = ap (λ (r : Result (Bor (List ℕ)) Refusal). length (result_unwrap_or r (record { ref_ptr = place; now = [] })).now) p.is in omega arith
 
-pub not_over_capacity : (at : ℕ × ℕ) → Shown (record { items = replicate 7 0; len = 8 }) (Ok (record { ref_ptr = at; now = replicate 7 0 })) → ⊥
+pub not_elsewhere : Shown (1, 8) (listed (1 ∷ [])) (Ok (record { ref_ptr = (1, 9); now = 1 ∷ [] })) → ⊥
 unfolding shown
-not_over_capacity at p = cc
+not_elsewhere p = let e : ◌≡◌ {A = ℕ} 9 8 = ap (λ (r : Result (Bor (List ℕ)) Refusal). (result_unwrap_or r (record { ref_ptr = (0, 0); now = [] })).ref_ptr.1) p.is in omega arith
 
-pub full_not_refused : Shown (listed (1 ∷ 2 ∷ 3 ∷ 4 ∷ 5 ∷ 6 ∷ 7 ∷ [])) (Err ListPlace) → ⊥
+pub not_over_capacity : (place : ℕ × ℕ) → Shown place (record { items = replicate 7 0; len = 8 }) (Ok (record { ref_ptr = place; now = replicate 7 0 })) → ⊥
 unfolding shown
-full_not_refused p = cc
+not_over_capacity place p = cc (p.is)
+
+pub full_not_refused : (place : ℕ × ℕ) → Shown place (listed (1 ∷ 2 ∷ 3 ∷ 4 ∷ 5 ∷ 6 ∷ 7 ∷ [])) (Err ListPlace) → ⊥
+unfolding shown
+full_not_refused place p = cc (p.is)
 
 -- an element stored by nine of its ten bits
 pub push_not_narrower : Pushed (listed []) 1023 (Ok tt) (listed (511 ∷ [])) → ⊥

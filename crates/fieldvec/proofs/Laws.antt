@@ -15,6 +15,7 @@ use Rattle.std.specs.Prelude.{⊤, Result, Ok, Err}
 use Rattle.std.specs.Result.{IsErrAnd}
 use Rattle.std.proofs.lemmas.Result.{err_from_is_err_and}
 use Rattle.std.specs.List.{list_all, zip}
+use denote.Ref.{Bor}
 use Rattle.laws.specs.Pick.{pick}
 use Rattle.laws.proofs.Bools.{and_false}
 use Rattle.laws.specs.Lists.{table}
@@ -23,34 +24,32 @@ use Rattle.numbers.specs.declared.Refusal.TheVariants.{ListPlace}
 use Rattle.gf32_ext.specs.Field.{power}
 use Rattle.fieldvec.specs.declared.FieldVec.{FieldVec}
 use Rattle.fieldvec.specs.Lists.{elements, listed, given, left, shown, pushed, popped_back, popped_front, got, reversed, compared, alike, pointwise, multiplied_pointwise, powers_given}
-use Rattle.fieldvec.specs.Promises.{Changes}
+use Rattle.fieldvec.specs.Promises.{Changes, Shown}
 
 -- ---- the list that is shown, or refused
 
 module _ (t : FieldVec) where
-  pub shown_ok : {l : List ℕ} → Ok l ≡ shown t → (t.len ≤ 7) × (l ≡ elements t)
+  pub shown_ok : {place : ℕ × ℕ} {l : Bor (List ℕ)} → Shown place t (Ok l) → (t.len ≤ 7) × (l.now ≡ elements t)
   unfolding shown
-  shown_ok {l} e = by (ltb 7 t.len) refl e
+  shown_ok {place} {l} shows = by (ltb 7 t.len) refl shows.is
     where
-      by : (b : Bool) → ltb 7 t.len ≡ b → Ok l ≡ pick b (Err ListPlace) (Ok (elements t)) → (t.len ≤ 7) × (l ≡ elements t)
+      by : (b : Bool) → ltb 7 t.len ≡ b → Ok l ≡ pick b (Err ListPlace) (Ok (record { ref_ptr = place; now = elements t })) → (t.len ≤ 7) × (l.now ≡ elements t)
       by true s e = cc
       by false s e = (ltb-false 7 t.len s, cc)
 
-  pub shown_err : {refusal : Refusal} → Err refusal ≡ shown t → (7 < t.len) × (refusal ≡ ListPlace)
+  pub shown_err : {place : ℕ × ℕ} {refusal : Refusal} → Shown place t (Err refusal) → (7 < t.len) × (refusal ≡ ListPlace)
   unfolding shown
-  shown_err {refusal} e = by (ltb 7 t.len) refl e
+  shown_err {place} {refusal} shows = by (ltb 7 t.len) refl shows.is
     where
-      by : (b : Bool) → ltb 7 t.len ≡ b → Err refusal ≡ pick b (Err ListPlace) (Ok (elements t)) → (7 < t.len) × (refusal ≡ ListPlace)
+      by : (b : Bool) → ltb 7 t.len ≡ b → ◌≡◌ {A = Result (Bor (List ℕ)) Refusal} (Err refusal) (pick b (Err ListPlace) (Ok (record { ref_ptr = place; now = elements t })))
+          → (7 < t.len) × (refusal ≡ ListPlace)
       by true s e = (ltb-true 7 t.len s, cc)
       by false s e = cc
 
-  pub shown_whole : t.len ≤ 7 → shown t ≡ Ok (elements t)
-  unfolding shown
-  shown_whole h = rw (le-ltb 7 t.len h)
-
   -- what the exit of a `?` on the elements returns
-  pub exit : {A : Type 0} (r : Result A Refusal) {refusal : Refusal} → IsErrAnd r (λ y. y ≡ refusal) → Err refusal ≡ shown t → (7 < t.len) × (r ≡ Err ListPlace)
-  exit r returned e = let p = err_from_is_err_and r returned in ((shown_err e).0, p.1 ∙ ap Err (p.2 ∙ (shown_err e).1))
+  pub exit : {A : Type 0} (r : Result A Refusal) {refusal : Refusal} {place : ℕ × ℕ} → IsErrAnd r (λ y. y ≡ refusal) → Shown place t (Err refusal)
+      → (7 < t.len) × (r ≡ Err ListPlace)
+  exit r returned shows = let p = err_from_is_err_and r returned in ((shown_err shows).0, p.1 ∙ ap Err (p.2 ∙ (shown_err shows).1))
 
   module _ {A : Type 0} {answer : Result (A × FieldVec) Refusal} where
     -- a refusal leaves the list as it was

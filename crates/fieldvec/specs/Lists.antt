@@ -1,6 +1,7 @@
 -- Document 01, module 3: a short list, a fixed array with a count; correction.rs bounds it at 7. Answer 25: the list is full; answer 26: it
 -- is empty, a place lies outside it, or lengths are unlike. Both leave the list as it was.
 use Rattle.std.specs.Prelude.{◌≡◌, Bool, true, false, ◌&&◌, ⊤, Result, Ok, Err, List, [], ◌∷◌, ◌++◌, map, reverse, ℕ, ◌+◌, ◌-◌, ◌%◌, ◌<◌, ◌≤◌, leb, ltb, eqb, length, set, get_or, take, drop, replicate}
+use denote.Ref.{Bor}
 use Rattle.laws.specs.Pick.{pick}
 use Rattle.laws.specs.Lists.{table, Every}
 use Rattle.numbers.specs.declared.Refusal.{Refusal}
@@ -43,9 +44,9 @@ left t (Err refusal) = t
 
 -- ---- the answers
 
--- the list itself
-unfoldable pub shown : FieldVec → Result (List ℕ) Refusal
-shown t = pick (ltb capacity t.len) (Err ListPlace) (Ok (elements t))
+-- the list itself, as it lies at the place where the FieldVec does
+unfoldable pub shown : ℕ × ℕ → FieldVec → Result (Bor (List ℕ)) Refusal
+shown place t = pick (ltb capacity t.len) (Err ListPlace) (Ok (record { ref_ptr = place; now = elements t }))
 
 -- the element after those in the list
 unfoldable pub pushed : FieldVec → ℕ → Result (⊤ × FieldVec) Refusal

@@ -1,7 +1,6 @@
 -- What each public function promises, and that two answers which keep the promise are equal; for one that changes a list, the lists that it
 -- leaves too.
 use Rattle.std.specs.Prelude.{◌≡◌, Bool, ⊤, Result, List, [], ℕ, ◌%◌}
-use Rattle.std.specs.Result.{result_map_both}
 use denote.Ref.{Bor}
 use Rattle.laws.proofs.Bools.{same}
 use Rattle.numbers.specs.declared.Refusal.{Refusal}
@@ -25,15 +24,12 @@ Emptied r = r ≡ listed []
 pub emptied_once : (r s : FieldVec) → Emptied r → Emptied s → r ≡ s
 emptied_once r s p q = same p q
 
--- fieldvec::FieldVec::elements, by the numbers that the slice has
-abbrev pub numbers_of : Result (Bor (List ℕ)) Refusal → Result (List ℕ) Refusal
-numbers_of r = result_map_both (λ s. s.now) (λ refusal. refusal) r
+-- fieldvec::FieldVec::elements
+pub record Shown (place : ℕ × ℕ) (t : FieldVec) (r : Result (Bor (List ℕ)) Refusal) : Type 0 where
+  pub is : r ≡ shown place t
 
-abbrev pub Shown : FieldVec → Result (Bor (List ℕ)) Refusal → Type 0
-Shown t r = numbers_of r ≡ shown t
-
-pub shown_once : (t : FieldVec) (r s : Result (Bor (List ℕ)) Refusal) → Shown t r → Shown t s → numbers_of r ≡ numbers_of s
-shown_once t r s p q = same p q
+pub shown_once : (place : ℕ × ℕ) (t : FieldVec) (r s : Result (Bor (List ℕ)) Refusal) → Shown place t r → Shown place t s → r ≡ s
+shown_once place t r s p q = same p.is q.is
 
 -- fieldvec::FieldVec::push
 abbrev pub Pushed : FieldVec → ℕ → Result ⊤ Refusal → FieldVec → Type 0

@@ -36,7 +36,7 @@ impl FieldVec {
     // The stored numbers.
     #[tactic(auto, unfolding(crate::specs::Lists::shown))]
     pub fn elements(&self) -> Result<&[u16], Refusal>
-        ensures { Shown self.now result }
+        ensures { Shown self.entry.ref_ptr self.now result }
     {
         if CAPACITY < self.len {
             return Err(Refusal::ListPlace);
