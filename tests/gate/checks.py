@@ -186,7 +186,7 @@ def uniqueness_problems(repository, name, crate, said, once):
     theorem = the_theorem(repository, crate, once)
     if not theorem:
         return [f"there is no public theorem {once} in specs/ or proofs/ of {crate}"]
-    found = statements.theorem_problems(theorem, crate, said.promise, repository.declared) + statements.once_problems(theorem, said)
+    found = statements.theorem_problems(theorem, crate, said.promise, repository.declared, generic=True) + statements.once_problems(theorem, said)
     return [f"{once} {what}" for what in found]
 
 

@@ -170,9 +170,9 @@ def over(root, crate):
 
 
 def reading_problems(root, crate, text):
-    """The functions that the gate reads of a crate are the ones that the prover names, by their last names."""
-    read = Counter(function.name.split("::")[-1] for function in sources.functions(root, crate))
-    proved = Counter(re.findall(rf"^fn {crate}::(?:\w+::)*(\w+): ", text, re.M))
+    """The functions that the gate reads of a crate are the ones that the prover names, by their last names. Closures, which it names below `fn`, are none."""
+    read = Counter(function.name.split("::")[-1] for function in sources.functions(root, crate)) + Counter(sources.derived(root, crate))
+    proved = Counter(name.split("::")[-1] for name in re.findall(rf"^fn {crate}::([\w:]*\w): ", text, re.M) if "fn" not in name.split("::"))
     return [(f"crates/{crate}/src", f"the gate reads {read[name]} functions `{name}`, the prover {proved[name]}")
             for name in sorted({*read, *proved}) if read[name] != proved[name]]
 

@@ -6,7 +6,7 @@ functions found here to the ones that the prover names.
 
 import os
 import re
-from dataclasses import dataclass
+from dataclasses import dataclass, replace
 from functools import cache
 from pathlib import Path
 
@@ -115,6 +115,7 @@ class Function:
     parameters: list
     lent: list      # those that are &mut
     result: bool    # it returns something
+    fields: list    # of a result that is a struct of its crate, the fields, if all of them are public
     clauses: dict   # of requires, ensures, ghost and what is none of these: the texts between the braces
     brought: dict   # what the file's `ghost use` lines bring
     attributes: str # what stands in `#[..]` above it
@@ -122,10 +123,20 @@ class Function:
 
 def functions(root, crate):
     """Every function of a crate, public or not."""
-    found = []
+    found, structs = [], {}
     for path in sorted((root / "crates" / crate / "src").rglob("*.rt")):
         text = read_without(RATTLE_SILENT, path)
+        structs |= structs_of(text)
         found += functions_of(text, module_of(root, path), path.relative_to(root).as_posix())
+    return [replace(function, fields=structs.get(function.result[2:], []), result=function.result not in ("", "->()")) for function in found]
+
+
+def structs_of(text):
+    """{struct: its fields, none where one of them is private}. A ghost field is no value."""
+    found = {}
+    for name, body in re.findall(r"\bstruct\s+(\w+)\s*\{([^}]*)\}", re.sub(r"\bghost\s+\w+\s*:\s*\{[^}]*\}", "", text)):
+        fields = re.findall(r"(?:^|,)\s*(pub\s+)?(?:pub\([^)]*\)\s*)?(\w+)\s*:", flat(body))
+        found[name] = [field for _, field in fields] if all(public for public, _ in fields) else []
     return found
 
 
@@ -152,14 +163,25 @@ def functions_of(text, module, file):
             attributes = step["attributes"] or ""
             public = bool("no_mangle" in attributes or step["pub"] and not step["within"])
             line = text.count("\n", 0, step.start("name")) + 1
-            found.append(Function(f"{scopes[-1]}::{step['name']}", file, line, public, *contract(text, step.end()), brought, attributes))
+            parameters, lent, result, clauses, body = contract(text, step.end())
+            if not body:  # a trait only declares it
+                continue
+            found.append(Function(f"{scopes[-1]}::{step['name']}", file, line, public, parameters, lent, result, [], clauses, brought, attributes))
         elif step["scope"]:
-            scopes.append(scopes[-1] + "::" + re.sub(r"<[^<>]*>", "", step["scope"]).split()[-1])
+            scopes.append(scopes[-1] + "::" + scope_name(step["scope"]))
         elif step[0] == "{":
             scopes.append(scopes[-1])
         elif len(scopes) > 1:
             scopes.pop()
     return found
+
+
+def scope_name(head):
+    """What the prover calls a block: the type of its methods or the module, and `TypeTraitParameter` where a type gets a trait."""
+    head = re.sub(r"\s*\bwhere\b.*", "", re.sub(r"^\s*<[^>]*>", "", head), flags=re.S)
+    trait, _, kind = head.rpartition(" for ")
+    words = re.findall(r"(?<!')\b[a-zA-Z]\w*", re.sub(r"<[^<>]*>", "", kind))[-1:] + re.findall(r"(?<!')\b[a-zA-Z]\w*", trait)
+    return "".join(word[0].upper() + word[1:] for word in words) if trait else words[0]
 
 
 LENT = r"&\s*(?:'\w+\s+)?mut\b"
@@ -169,8 +191,8 @@ CLAUSE = re.compile(r"\b(?:(ghost)(?:\s+\w+\s*:)?|(requires|ensures)(\*)?(?:\s+[
 
 
 def contract(text, at):
-    """What stands after a function's name: (parameters, those that are &mut, has a result, clauses)."""
-    start = text.find("(", at)
+    """What stands after a function's name: (parameters, those that are &mut, the text of the result, clauses, whether it has a body)."""
+    start = text.find("(", past_angles(text, at))
     at = closing(text, start)
     parameters = re.findall(r"(?:^|,)\s*(?:mut\s+)?(?:&\s*(?:'\w+\s+)?(?:mut\s+)?)?(\w+)\s*(?=[:,]|$)", flat(text[start + 1:at]))
     lent = re.findall(rf"(\w+)\s*:[^,]*?{LENT}|{LENT}\s+(self)\b", flat(text[start + 1:at]))
@@ -180,15 +202,26 @@ def contract(text, at):
         head = text[at + 1:brace]
         clause = CLAUSE.search(head)
         if result is None:
-            result = re.sub(r"\s", "", head[:clause.start()] if clause else head)
+            result = re.sub(r"\bwhere\b.*|\s", "", head[:clause.start()] if clause else head, flags=re.S)
         elif not clause and brace >= 0 and head.strip() and head.strip()[0] != ";":  # neither a clause that is known nor the body
             clauses["other"].append(head.strip())
             at = closing(text, brace)
             continue
         if brace < 0 or not clause:  # this brace opens the body
-            return parameters, [a or b for a, b in lent], result not in ("", "->()"), clauses
+            body = brace >= 0 and ";" not in re.sub(r"\[[^]]*\]", "", head)
+            return parameters, [a or b for a, b in lent], result.partition(";")[0] if not body else result, clauses, body
         at = closing(text, brace)
         clauses["other" if clause[3] else clause[1] or clause[2]].append(text[brace + 1:at])
+
+
+def past_angles(text, at):
+    """The place after the type parameters that begin at a place, if any do."""
+    depth = 0
+    for sign in re.finditer(r"->|\S", text[at:]):
+        depth += (sign[0] == "<") - (sign[0] == ">")
+        if depth == 0:
+            return at + sign.end() if sign[0] == ">" else at
+    return at
 
 
 def flat(text):
@@ -209,6 +242,17 @@ def closing(text, start):
         if depth == 0:
             return at
     return len(text)
+
+
+# The functions that a derive writes. The clone of a type that is copied is none.
+DERIVED = {"PartialEq": "eq", "PartialOrd": "partial_cmp", "Ord": "cmp", "Debug": "fmt", "Default": "default", "Hash": "hash", "Clone": "clone"}
+
+
+def derived(root, crate):
+    """The names of the functions that the derives of a crate write, each as often as it is written."""
+    listed = [re.findall(r"\w+", words) for path in sorted((root / "crates" / crate / "src").rglob("*.rt"))
+              for words in re.findall(r"#\[derive\(([^)]*)\)\]", read_without(RATTLE_SILENT, path))]
+    return [DERIVED[word] for words in listed for word in words if word in DERIVED and not (word == "Clone" and "Copy" in words)]
 
 
 def empty_enums(root, crate):

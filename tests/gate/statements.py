@@ -69,7 +69,9 @@ def ensures_problems(function):
         if not ARGUMENT.fullmatch(argument) or name not in own or whole:
             found.append(f"has an ensures with `{plain(argument)}`, which is no input, exit or result of the function")
     if function.result and not {"result", "result.now"} & {*said.arguments}:
-        found.append("has an ensures that does not speak of the result")
+        parts = {argument.removeprefix("result.") for argument in said.arguments if argument.startswith("result.")}
+        if not parts or parts != {*function.fields}:  # of a struct, each public field may stand for itself
+            found.append("has an ensures that does not speak of the result")
     return found + [f"has an ensures that does not speak of `{lent}.new`" for lent in function.lent if f"{lent}.new" not in said.arguments]
 
 
@@ -132,7 +134,8 @@ def fixed_by(declared, fact, name, seen):
 
 # What may be asked for all values of: types that hold data. A type of another kind could be one that nothing has.
 KIT = {"Prim.Native.Nat.ℕ", "mathlib.Core.List.List", "mathlib.Core.Bool.Bool"}
-KIT |= {f"{home}.{word}" for home in LIBRARY[:2] for word in ("ℕ", "List", "Bool")}
+KIT |= {f"{home}.{word}" for home in LIBRARY[:2] for word in ("ℕ", "List", "Bool", "Option", "Result", "⊤")}
+KIT |= {"Rattle.std.specs.declared.cmp.Ordering.Ordering", "denote.Ref.Bor"}
 OURS = re.compile(rf"Rattle\.(\w+)\.(?:specs|proofs)\.(.+)\.({NAME})")
 
 
@@ -195,8 +198,9 @@ def binders(words):
     return bound, rest
 
 
-def theorem_problems(declaration, crate, promise, declared):
-    """What any theorem of a row must be: a public fact at the top of its file, about this crate's promise and for all data."""
+def theorem_problems(declaration, crate, promise, declared, generic=False):
+    """What any theorem of a row must be: a public fact at the top of its file, about this crate's promise and for all data. That of a generic function
+    may be for all types too."""
     found = []
     if not declaration.top:
         found.append("stands in a section, not at the top of its file")
@@ -206,10 +210,17 @@ def theorem_problems(declaration, crate, promise, declared):
     if declaration.brought.get(promise, here if declaration.module == "Promises" else None) != here:
         found.append(f"does not take {promise} from specs/Promises")
     found += [f"stands in a file that gives {word} another meaning" for word in sorted(other_meaning(declaration.brought))]
-    for name, kind in theorem(tokens(declaration.statement)).variables.items():
-        if not all(is_data(declared, crate, declaration, word) for word in kind):
+    variables = theorem(tokens(declaration.statement)).variables
+    types = {name for name, kind in variables.items() if generic and kind == ["Type", "0"]}
+    for name, kind in variables.items():
+        if name not in types and not all(word in types or is_data(declared, crate, declaration, word) for word in kind):
             found.append(f"asks for `{name} : {plain(' '.join(kind))}`, which is no data")
     return found
+
+
+def written(words):
+    """The arguments of a promise, those in braces left out."""
+    return [atom for atom in atoms(words)[1:] if not atom.startswith("{")]
 
 
 def once_problems(declaration, said):
@@ -217,7 +228,7 @@ def once_problems(declaration, said):
     read = theorem(tokens(declaration.statement))
     if len(read.hypotheses) != 2 or any(words[0] != said.promise for words in read.hypotheses):
         return [f"does not have {said.promise} twice, and nothing else, as its hypotheses"]
-    first, second = (atoms(words)[1:] for words in read.hypotheses)
+    first, second = (written(words) for words in read.hypotheses)
     if not len(first) == len(second) == len(said.arguments):
         return [f"does not give {said.promise} its {len(said.arguments)} arguments"]
     found, wanted, used = [], set(), []
@@ -243,7 +254,7 @@ def wrong_problems(declaration, promise, promises):
     if not any(words[0] == promise for words in read.hypotheses):
         found.append(f"does not have {promise} as a hypothesis")
     for words in read.hypotheses:
-        given = atoms(words)[1:]
+        given = written(words)
         if promises.get(words[0]) != len(given) or {"×", "⊎", "→"} & {*given}:
             found.append(f"has a hypothesis that is no promise: `{plain(' '.join(words))}`")
     return found

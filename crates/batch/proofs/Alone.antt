@@ -6,7 +6,7 @@ use native.Mathlib.Omega.{arith}
 use lib.ListN.{length, get_or, replicate}
 use Rattle.laws.specs.Text.{bytes}
 use Rattle.laws.proofs.Front.{get_d_map}
-use Rattle.answers.specs.Numbers.{number_of_verdict}
+use Rattle.numbers.specs.Numbers.{number_in}
 use Rattle.answers.proofs.Computing.{computing}
 use Rattle.batch.specs.Batch.{entry_verdict, judged, batch_verdict, entries_after}
 use Rattle.batch.specs.Promises.{BatchJudged}
@@ -15,7 +15,7 @@ use Rattle.batch.proofs.Entries.{none, few_accepted}
 
 module _ (buffer : List ℕ) (before : List Entry) (r : ℕ) (after : List Entry) (is : BatchJudged buffer before r after) (few : length before ≤ 32) where
   pub lent_accepted : r ≡ 0
-  lent_accepted = is.number ∙ ap number_of_verdict (few_accepted before few)
+  lent_accepted = is.number ∙ ap number_in (few_accepted before few)
 
   pub lent_all : after ≡ map (judged buffer) before
   lent_all = is.entries ∙ ap (λ v. entries_after v buffer before) (few_accepted before few)

@@ -1,7 +1,7 @@
 -- What each function promises, and that only one outcome meets it.
 use Rattle.std.specs.Prelude.{◌≡◌, List, ℕ}
 use Rattle.laws.proofs.Bools.{same}
-use Rattle.answers.specs.Numbers.{number_of_verdict}
+use Rattle.numbers.specs.Numbers.{number_in}
 use Rattle.batch.specs.Batch.{judged, batch_verdict, entries_after}
 use Rattle.batch.specs.declared.Entry.{Entry}
 
@@ -14,7 +14,7 @@ entry_judged_once buffer entry r s p q = same p q
 
 -- batch::pennywax_apart_judge_batch
 pub record BatchJudged (buffer : List ℕ) (before : List Entry) (r : ℕ) (after : List Entry) : Type 0 where
-  pub number : r ≡ number_of_verdict (batch_verdict before)
+  pub number : r ≡ number_in (batch_verdict before)
   pub entries : after ≡ entries_after (batch_verdict before) buffer before
 
 pub batch_judged_once : (buffer : List ℕ) (before : List Entry) (r r' : ℕ) (after after' : List Entry)

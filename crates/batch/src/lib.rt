@@ -6,12 +6,12 @@ ghost use Rattle.batch.specs.Batch.{entry_verdict, judged_as};
 ghost use Rattle.batch.specs.Promises.{EntryJudged, BatchJudged};
 
 use answers::Address;
-use numbers::{ACCEPTED, BATCH_LONG, ENTRY_OUTSIDE};
+use numbers::{ACCEPTED, Refusal};
 
 pub const MAX_ENTRIES: usize = 32;
 
 // One address of a batch: where it stands in the buffer; its verdict, 0 or a number of `numbers`, and with 0 its version and its program's length. C has it
-// with the same layout.
+// with the same layout, so the verdict is a number and no Result.
 #[repr(C)]
 #[derive(Clone, Copy)]
 pub struct Entry {
@@ -23,6 +23,7 @@ pub struct Entry {
 }
 
 // One entry with its verdict, version and program length; where it stands is kept.
+#[tactic(auto, unfolding(crate::specs::Batch::judged))]
 pub fn judge(buffer: &[u8], entry: Entry) -> Entry
     ensures { EntryJudged buffer.now entry result }
 {
@@ -30,54 +31,47 @@ pub fn judge(buffer: &[u8], entry: Entry) -> Entry
 }
 
 // Start and length are compared without their sum, which may be no usize.
-fn entry_verdict(buffer: &[u8], entry: Entry) -> Address
+#[tactic(auto, unfolding(crate::specs::Batch::entry_verdict))]
+fn entry_verdict(buffer: &[u8], entry: Entry) -> Result<Address, Refusal>
     ensures { result ≡ entry_verdict buffer.now entry }
 {
-    let start = entry.start;
-    let len = entry.len;
-    if buffer.len() < start {
-        return Address::Refused(ENTRY_OUTSIDE);
-    }
-    if buffer.len() - start < len {
-        return Address::Refused(ENTRY_OUTSIDE);
+    let Entry { start, len, .. } = entry;
+    if buffer.len() < start || buffer.len() - start < len {
+        return Err(Refusal::EntryOutside);
     }
     decode::check_address(&buffer[start..start + len])
 }
 
-fn judged_as(entry: Entry, address: Address) -> Entry
-    ensures { result ≡ judged_as entry address }
+fn judged_as(entry: Entry, answer: Result<Address, Refusal>) -> Entry
+    ensures { result ≡ judged_as entry answer }
 {
-    match address {
-        Address::Accepted(version, program) => with_results(entry, 0, version, program),
-        Address::Refused(number) => with_results(entry, number, 0, 0),
-    }
-}
-
-fn with_results(entry: Entry, verdict: u8, version: u8, program: usize) -> Entry
-    ensures { result ≡ record { start = entry.start; len = entry.len; verdict = verdict; version = version; program = program } }
-{
-    Entry {
-        start: entry.start,
-        len: entry.len,
-        verdict,
-        version,
-        program,
+    match answer {
+        Ok(address) => Entry {
+            verdict: ACCEPTED,
+            version: address.version,
+            program: address.length,
+            ..entry
+        },
+        Err(refusal) => Entry {
+            verdict: refusal.into(),
+            version: 0,
+            program: 0,
+            ..entry
+        },
     }
 }
 
 // Each entry of the lent list judged in its place. The answer is a number, 0 or 19, as callers that know C have no enums. They call it through the
 // static library batch_c.
+#[tactic(auto, using(laws::proofs::Front::in_place, crate::proofs::Entries::many_refused, crate::proofs::Entries::few_accepted))]
 pub fn pennywax_apart_judge_batch(buffer: &[u8], entries: &mut [Entry]) -> u8
     ensures { BatchJudged buffer.now entries.old result entries.new }
 {
     if MAX_ENTRIES < entries.len() {
-        return BATCH_LONG;
+        return Refusal::BatchLong.into();
     }
-    let mut i = 0;
-    while i < entries.len() {
-        let entry = entries[i];
-        entries[i] = judge(buffer, entry);
-        i += 1;
+    for entry in entries.iter_mut() {
+        *entry = judge(buffer, *entry);
     }
     ACCEPTED
 }

@@ -2,112 +2,96 @@
 // crate lines, which is proved; here are only the calls that read and write.
 #![tactic(auto)]
 
-ghost use Rattle.std.specs.Prelude.{◌≤◌, length};
+ghost use Rattle.std.specs.Prelude.{◌≤◌, length, IfOk};
 
-use answers::Written;
-use lines::{Fed, Line};
+use lines::{KEPT, Line};
+use std::fmt;
 use std::io::Read;
 
-// What a piece of the input leaves behind: the count of kept bytes, and whether all its answers were written.
+// Why a run stops with answers missing.
 #[derive(Clone, Copy)]
-struct Stand {
-    len: usize,
-    written: bool,
+enum Failure {
+    Reading,
+    Writing,
+    InputLong,
+    LastAnswer,
+    WritingLast,
+}
+
+impl fmt::Display for Failure {
+    fn fmt<W: fmt::Write>(&self, f: &mut fmt::Formatter<W>) -> fmt::Result {
+        f.write_str(match self {
+            Failure::Reading =>
+                "checker: reading failed; the input after the last answer was not judged",
+            Failure::Writing => "checker: writing failed; answers are missing",
+            Failure::InputLong => "checker: the input is too long; what follows was not judged",
+            Failure::LastAnswer => "checker: the last answer is missing",
+            Failure::WritingLast => "checker: writing failed; the last answer is missing",
+        })
+    }
 }
 
 fn main(rt: HostRuntime) {
-    let mut line = [0u8; 91];
-    let mut piece = [0u8; 65536];
-    let mut out = [0u8; 65536];
-    run(&rt, &mut line, &mut piece, &mut out);
+    if let Err(failure) = run(&rt) {
+        // A message that cannot be written is lost.
+        let _ = rt.eprintln(failure);
+    }
 }
 
 // Piece by piece to the end of the input. Each piece's answers are written before more is read.
-fn run(rt: &(impl Input + Print + Eprint), line: &mut [u8], piece: &mut [u8], out: &mut [u8])
-    requires { (91 ≤ length line.old) × (3 ≤ length out.old) }
-{
+fn run(rt: &(impl Input + Print)) -> Result<(), Failure> {
+    let mut line = [0u8; KEPT];
+    let mut piece = [0u8; 65536];
+    let mut out = [0u8; 65536];
     let mut input = rt.reader();
     let mut len = 0;
-    let mut turns = u64::MAX;
-    while 0 < turns {
-        let Ok(n) = input.read(piece) else {
-            say(
-                rt,
-                "checker: reading failed; the input after the last answer was not judged",
-            );
-            return;
+    for _ in 0..u64::MAX {
+        let Ok(n) = input.read(&mut piece) else {
+            return Err(Failure::Reading);
         };
         if n == 0 {
-            finish(rt, line, len, out);
-            return;
+            return finish(rt, &line, len, &mut out);
         }
-        let stand = answer(rt, &piece[..n], line, len, out);
-        if !stand.written {
-            say(rt, "checker: writing failed; answers are missing");
-            return;
-        }
-        len = stand.len;
-        turns -= 1;
+        len = answer(rt, &piece[..n], &mut line, len, &mut out)?;
     }
-    say(
-        rt,
-        "checker: the input is too long; what follows was not judged",
-    );
+    Err(Failure::InputLong)
 }
 
-// All answers of a piece.
-fn answer(rt: &impl Print, piece: &[u8], line: &mut [u8], kept: usize, out: &mut [u8]) -> Stand
+// All answers of a piece; what comes back is the count of bytes that are kept of its last line.
+fn answer(
+    rt: &impl Print,
+    piece: &[u8],
+    line: &mut [u8],
+    kept: usize,
+    out: &mut [u8],
+) -> Result<usize, Failure>
     requires { (91 ≤ length line.old) × (3 ≤ length out.old) × (kept ≤ 91) }
-    ensures { result.len ≤ 91 }
+    ensures { IfOk result (λ len. len ≤ 91) }
 {
     let mut len = kept;
-    let mut at = 0;
-    while at < piece.len() {
-        let fed = lines::feed(&piece[at..], line, Line { len }, out);
-        let Fed::Took {
-            taken,
-            written,
-            len: next,
-        } = fed
-        else {
-            return Stand {
-                len,
-                written: false,
-            };
+    let mut rest = piece;
+    while !rest.is_empty() {
+        let Ok(fed) = lines::feed(rest, line, Line { len }, out) else {
+            return Err(Failure::Writing);
         };
-        if !write(rt, out, written) {
-            return Stand {
-                len: next,
-                written: false,
-            };
+        if rt.write_all(&out[..fed.written]).is_err() {
+            return Err(Failure::Writing);
         }
-        len = next;
-        at += taken;
+        len = fed.len;
+        rest = &rest[fed.taken..];
     }
-    Stand { len, written: true }
+    Ok(len)
 }
 
 // The last line's answer, if it had no line end.
-fn finish(rt: &(impl Print + Eprint), line: &[u8], len: usize, out: &mut [u8])
+fn finish(rt: &impl Print, line: &[u8], len: usize, out: &mut [u8]) -> Result<(), Failure>
     requires { (91 ≤ length line.now) × (3 ≤ length out.old) × (len ≤ 91) }
 {
-    let last = lines::finish(line, Line { len }, out);
-    let Written::Accepted(n) = last else {
-        say(rt, "checker: the last answer is missing");
-        return;
+    let Ok(n) = lines::finish(line, Line { len }, out) else {
+        return Err(Failure::LastAnswer);
     };
-    if !write(rt, out, n) {
-        say(rt, "checker: writing failed; the last answer is missing");
+    if rt.write_all(&out[..n]).is_err() {
+        return Err(Failure::WritingLast);
     }
-}
-
-fn write(rt: &impl Print, out: &[u8], n: usize) -> bool
-    requires { n ≤ length out.now }
-{
-    rt.write_all(&out[..n]).is_ok()
-}
-
-// A message that cannot be written is lost.
-fn say(rt: &impl Eprint, text: &str) {
-    let _ = rt.eprintln(text);
+    Ok(())
 }

@@ -5,6 +5,8 @@ use Prim.Native.Nat.{ℕ, zero, suc, ◌<◌}
 use native.Mathlib.Omega.{arith}
 use lib.Dec.{eqb, ltb}
 use borrow.Author.Tests.{eqb-true, eq-eqb, ltb-true, lt-ltb}
+use Rattle.std.specs.Prelude.{Ok, Err}
+use Rattle.numbers.specs.declared.Refusal.TheVariants.{NoSinglePlace}
 use Rattle.laws.specs.Pick.{pick}
 use Rattle.laws.specs.Xor.{◌⊕◌}
 use Rattle.laws.specs.Lists.{any_below, first_below}
@@ -14,7 +16,6 @@ use Rattle.paper.specs.Checksum.{change_at}
 use Rattle.detection.specs.Places.{Explains}
 use Rattle.detection.proofs.Locate.{one_place}
 use Rattle.correction.specs.Locator.{explains, place_verdict}
-use Rattle.correction.specs.declared.Located.TheVariants as located
 
 module _ (constant r p : ℕ) where
   pub explains_statement : explains constant r p ≡ true → Explains r constant p
@@ -44,7 +45,7 @@ one_place_explains constant r p q hp hq e f =
     one_place r constant p q hp hq (explains_statement constant r p e) (explains_statement constant r q f)
 
 -- so the place that explains is the one that the verdict gives
-pub place_found : (constant r p : ℕ) → p < 1023 → explains constant r p ≡ true → place_verdict constant r ≡ located.At p
+pub place_found : (constant r p : ℕ) → p < 1023 → explains constant r p ≡ true → place_verdict constant r ≡ Ok p
 unfolding place_verdict
 place_found constant r p h e =
     let first : first_below 1023 (explains constant r) ≡ p = first_below_lem (explains constant r) 1023 p h e earlier in
@@ -59,13 +60,13 @@ place_found constant r p h e =
             let same : q ≡ p = one_place_explains constant r q p (omega arith) h seen e in
             absurd (omega arith)
 
--- and where none explains it is 21
-pub place_missing : (constant r : ℕ) → ((p : ℕ) → p < 1023 → Explains r constant p → ⊥) → place_verdict constant r ≡ located.Refused 21
+-- and where none explains there is no single place
+pub place_missing : (constant r : ℕ) → ((p : ℕ) → p < 1023 → Explains r constant p → ⊥) → place_verdict constant r ≡ Err NoSinglePlace
 unfolding place_verdict
 place_missing constant r none = by_test (ltb (first_below 1023 (explains constant r)) 1023) refl
   where
     by_test : (b : Bool) → ltb (first_below 1023 (explains constant r)) 1023 ≡ b
-        → pick b (located.At (first_below 1023 (explains constant r))) (located.Refused 21) ≡ located.Refused 21
+        → pick b (Ok (first_below 1023 (explains constant r))) (Err NoSinglePlace) ≡ Err NoSinglePlace
     by_test false seen = refl
     by_test true seen =
         let h : first_below 1023 (explains constant r) < 1023 = ltb-true (first_below 1023 (explains constant r)) 1023 seen in
@@ -73,13 +74,13 @@ place_missing constant r none = by_test (ltb (first_below 1023 (explains constan
         (explains_statement constant r (first_below 1023 (explains constant r)) (found_below (explains constant r) 1023 h)))
 
 -- a place that the verdict gives explains
-pub place_given : (constant r p : ℕ) → place_verdict constant r ≡ located.At p → (p < 1023) × Explains r constant p
+pub place_given : (constant r p : ℕ) → place_verdict constant r ≡ Ok p → (p < 1023) × Explains r constant p
 unfolding place_verdict
 place_given constant r p e = by_test (ltb (first_below 1023 (explains constant r)) 1023) refl e
   where
     by_test : (b : Bool) → ltb (first_below 1023 (explains constant r)) 1023 ≡ b
-        → pick b (located.At (first_below 1023 (explains constant r))) (located.Refused 21) ≡ located.At p → (p < 1023) × Explains r constant p
-    by_test false seen e = absurd (let z : ◌≡◌ {A = ℕ} 0 1 = cc in omega arith)
+        → pick b (Ok (first_below 1023 (explains constant r))) (Err NoSinglePlace) ≡ Ok p → (p < 1023) × Explains r constant p
+    by_test false seen e = absurd cc
     by_test true seen e =
         let h : first_below 1023 (explains constant r) < 1023 = ltb-true (first_below 1023 (explains constant r)) 1023 seen in
         let same : p ≡ first_below 1023 (explains constant r) = cc in

@@ -1,3 +1,3 @@
 pub mod Locator
-pub mod Numbers
+pub mod Values
 pub mod Promises

@@ -1,111 +1,102 @@
 -- Generic reading in stages: characters and prefix (1 to 6), then the length (7), then the checksum (8 and 9).
-use mathlib.Core.Path.{◌≡◌, refl, sym, ap, ap₂, ◌∙◌}
-use mathlib.Core.Bool.{false}
-use mathlib.Core.List.{List, [], ◌∷◌}
-use Prim.Native.Nat.{ℕ, ◌+◌, ◌-◌, ◌≤◌, ◌<◌}
-use native.Mathlib.Omega.{arith}
-use lib.ListN.{length, take, drop}
+use Rattle.std.specs.Prelude.{List, [], ◌∷◌, ◌++◌, ◌≡◌, ℕ, ◌+◌, ◌-◌, ◌≤◌, ◌<◌, length, take, drop, false, Result, Ok, Err}
+use Rattle.std.proofs.Common.{refl, sym, ap, ap₂, ◌∙◌, arith}
 use borrow.Author.Tests.{lt-ltb, le-ltb, ltb-false}
+use Rattle.numbers.specs.declared.Refusal.{Refusal}
+use Rattle.numbers.specs.declared.Refusal.TheVariants.{NoSeparator, StringLong, DataShort}
 use Rattle.answers.specs.Order.{Rule, ◌gives◌, first_of, NoneApplies}
-use Rattle.answers.specs.Reading.{string_rules, data_part, prefix_part, payload, longer_than, data_short, checksum_wrong, separator_missing, reading_rules, read_verdict, part_of}
-use Rattle.answers.specs.declared.Reading.{Reading}
-use Rattle.answers.specs.declared.Reading.TheVariants as reading
-use Rattle.answers.specs.declared.Verdict.TheVariants as verdict
+use Rattle.answers.specs.Reading.{string_rules, data_part, prefix_part, payload, longer_than, data_short, checksum_wrong, separator_missing, reading_rules, read_verdict, part_of, as_parts}
+use Rattle.answers.specs.declared.Parts.{Parts}
 use Rattle.answers.proofs.Orders.{accepted_only, passed}
-use Rattle.answers.proofs.Exact.{reading_injective, reading_apart, payload_length}
-use Rattle.answers.proofs.Refusals.{verdict_apart, verdict_injective}
+use Rattle.answers.proofs.Exact.{payload_length, same_parts}
 use Rattle.checksum.specs.Parameters.{constant_for}
 use Rattle.checksum.specs.declared.Checksum.{Checksum}
 use Rattle.decode.specs.Splitting.{parts_of, split_verdict}
 use Rattle.decode.specs.Asked.{sum_rules, sum_verdict}
 use Rattle.decode.specs.Places.{Place, further, start_of}
+use Rattle.decode.specs.Halves.{lengths_of, Halved}
 use Rattle.decode.specs.Promises.{DataPartGiven, PrefixPartGiven}
-use Rattle.decode.specs.declared.Parts.{Parts}
-use Rattle.decode.specs.declared.Parted.TheVariants as parted
-use Rattle.decode.proofs.Stages.{rest_decides, stage_refuses}
-use Rattle.decode.proofs.Own.{parted_apart, parted_injective, own_length, own_front, own_back}
+use Rattle.decode.specs.declared.Halves.{Halves}
+use Rattle.decode.proofs.Stages.{rest_decides, stage_refuses, none_in_both}
+use Rattle.decode.proofs.Own.{own_length, own_front, own_back}
+use Rattle.decode.proofs.Halving.{read_accepted}
 
 module _ (constant : ℕ) (s : List ℕ) where
-  abbrev accepts : Reading
-  accepts = reading.Accepted (length (prefix_part s)) (length (payload s))
+  abbrev accepted_parts : Parts
+  accepted_parts = as_parts (length (prefix_part s)) (length (payload s))
 
   -- the rules of the last stage
   abbrev last_rules : List Rule
   last_rules = sum_rules constant (prefix_part s) (data_part s)
 
-  pub read_split_refused : (n : ℕ) → parted.Refused n ≡ split_verdict s → reading.Refused n ≡ read_verdict constant s
-  unfolding split_verdict read_verdict
-  read_split_refused n e =
-      stage_refuses parted.Refused parted_injective (parted.Into (parts_of s)) (parted_apart (parts_of s)) reading.Refused accepts (string_rules s)
-      (drop (length (string_rules s)) (reading_rules constant s)) n e
+  abbrev rest_rules : List Rule
+  rest_rules = longer_than 1023 s gives StringLong ∷ last_rules
 
-  module _ (none : NoneApplies (string_rules s)) where
-    rest : first_of reading.Refused (longer_than 1023 s gives 7 ∷ last_rules) accepts ≡ read_verdict constant s
-    unfolding read_verdict data_short checksum_wrong
-    rest = rest_decides reading.Refused (string_rules s) (longer_than 1023 s gives 7 ∷ last_rules) accepts none
+  in_stages : first_of (string_rules s ++ rest_rules) accepted_parts ≡ read_verdict constant s
+  unfolding read_verdict data_short checksum_wrong
+  in_stages = refl
 
-    pub read_long : 1023 < length s → reading.Refused 7 ≡ read_verdict constant s
+  pub read_split_refused : (r : Refusal) → Err r ≡ split_verdict s → Err r ≡ read_verdict constant s
+  unfolding split_verdict
+  read_split_refused r e = stage_refuses (parts_of s) accepted_parts (string_rules s) rest_rules r e ∙ in_stages
+
+  module _ (lent : Place) (h : Halves) (own : Halved (string_rules s) lent s (data_part s) h) where
+    rest : first_of rest_rules accepted_parts ≡ read_verdict constant s
+    rest = rest_decides (string_rules s) rest_rules accepted_parts own.accepted ∙ in_stages
+
+    pub read_long : 1023 < length s → Err StringLong ≡ read_verdict constant s
     unfolding longer_than
-    read_long h = rw (lt-ltb 1023 (length s) h) at rest
+    read_long long = rw (lt-ltb 1023 (length s) long) at rest
 
     module _ (short : length s ≤ 1023) where
-      last : first_of reading.Refused last_rules accepts ≡ read_verdict constant s
-      unfolding longer_than
-      last = rw (le-ltb 1023 (length s) short) at rest
+      pub read_sum_refused : (r : Refusal) → Err r ≡ sum_verdict constant h.prefix.now h.characters.now → Err r ≡ read_verdict constant s
+      unfolding sum_verdict longer_than
+      read_sum_refused r e =
+          stage_refuses tt accepted_parts last_rules [] r (rw (own.prefix, own.characters) at e)
+          ∙ (rw (le-ltb 1023 (length s) short) at rest)
 
-      pub read_sum_refused : (n : ℕ) → verdict.Refused n ≡ sum_verdict constant (prefix_part s) (data_part s) → reading.Refused n ≡ read_verdict constant s
-      unfolding sum_verdict
-      read_sum_refused n e =
-          stage_refuses verdict.Refused verdict_injective verdict.Accepted verdict_apart reading.Refused accepts last_rules [] n e ∙ last
-
-      module _ (checked : verdict.Accepted ≡ sum_verdict constant (prefix_part s) (data_part s)) where
-        sum_rules_lem : NoneApplies last_rules
-        unfolding sum_verdict
-        sum_rules_lem = (accepted_only verdict.Refused verdict_injective verdict.Accepted verdict.Accepted verdict_apart last_rules (sym checked)).0
-
-        enough : 6 ≤ length (data_part s)
-        enough = ltb-false (length (data_part s)) 6 (passed 8 last_rules sum_rules_lem)
-
-        module _ (p : Parts) (own : p ≡ parts_of s) where
-          pub read_enough : 6 ≤ p.symbols
-          unfolding parts_of
-          read_enough = rw own enough
-
-          pub read_accepted : reading.Accepted p.prefix (p.symbols - 6) ≡ read_verdict constant s
-          unfolding parts_of
-          read_accepted =
-              ap (λ (q : Parts). reading.Accepted q.prefix (q.symbols - 6)) own
-              ∙ ap (reading.Accepted (length (prefix_part s))) (sym (payload_length s))
-              ∙ rest_decides reading.Refused last_rules [] accepts sum_rules_lem
-              ∙ last
+      pub checksum_off : Ok tt ≡ sum_verdict constant h.prefix.now h.characters.now → (less : Halves) → less.prefix ≡ h.prefix
+          → less.characters.now ≡ take (length h.characters.now - 6) h.characters.now → less.characters.ref_ptr ≡ h.characters.ref_ptr
+          → Halved (reading_rules constant s) lent s (payload s) less
+      unfolding sum_verdict longer_than data_short checksum_wrong payload
+      checksum_off checked less front part there =
+          record {
+            accepted =
+                none_in_both (string_rules s) rest_rules own.accepted
+                (le-ltb 1023 (length s) short, (accepted_only tt tt last_rules (sym (rw (own.prefix, own.characters) at checked))).0);
+            prefix = rw front own.prefix;
+            characters = part ∙ ap (λ (l : List ℕ). take (length l - 6) l) own.characters;
+            prefix_there = rw front own.prefix_there;
+            characters_there = there ∙ own.characters_there;
+          }
 
 -- ---- what an accepted reading says of the string
 
-module _ (constant : ℕ) (s : List ℕ) (m n : ℕ) (read : reading.Accepted m n ≡ read_verdict constant s) where
-  accepted : NoneApplies (reading_rules constant s) × (reading.Accepted (length (prefix_part s)) (length (payload s)) ≡ reading.Accepted m n)
+module _ (constant : ℕ) (s : List ℕ) (m n : ℕ) (read : Ok (as_parts m n) ≡ read_verdict constant s) where
+  accepted : NoneApplies (reading_rules constant s) × (as_parts (length (prefix_part s)) (length (payload s)) ≡ as_parts m n)
   unfolding read_verdict
-  accepted =
-      accepted_only reading.Refused reading_injective (reading.Accepted (length (prefix_part s)) (length (payload s))) (reading.Accepted m n) (reading_apart m n)
-      (reading_rules constant s) (sym read)
+  accepted = accepted_only (as_parts (length (prefix_part s)) (length (payload s))) (as_parts m n) (reading_rules constant s) (sym read)
 
   pub read_rules : NoneApplies (reading_rules constant s)
   read_rules = accepted.0
 
   present : separator_missing s ≡ false
-  present = passed 3 (reading_rules constant s) read_rules
+  present = passed NoSeparator (reading_rules constant s) read_rules
 
   data_enough : 6 ≤ length (data_part s)
   unfolding data_short
-  data_enough = ltb-false (length (data_part s)) 6 (passed 8 (reading_rules constant s) read_rules)
+  data_enough = ltb-false (length (data_part s)) 6 (passed DataShort (reading_rules constant s) read_rules)
 
   pub read_prefix_length : m ≡ length (prefix_part s)
-  read_prefix_length = let same : reading.Accepted (length (prefix_part s)) (length (payload s)) ≡ reading.Accepted m n = accepted.1 in cc
+  read_prefix_length = sym (same_parts _ _ _ _ accepted.1).0
 
   pub read_payload_length : n ≡ length (payload s)
-  read_payload_length = let same : reading.Accepted (length (prefix_part s)) (length (payload s)) ≡ reading.Accepted m n = accepted.1 in cc
+  read_payload_length = sym (same_parts _ _ _ _ accepted.1).1
 
   pub read_length : m + 1 + n + 6 ≡ length s
-  read_length = let six : 6 ≤ length (data_part s) = data_enough in omega (arith, read_prefix_length, read_payload_length, payload_length s, own_length s present)
+  read_length =
+      let six : 6 ≤ length (data_part s) = data_enough in
+      omega (arith, read_prefix_length, read_payload_length, payload_length s, own_length s present)
 
   pub read_prefix : take m s ≡ prefix_part s
   read_prefix = ap (λ (k : ℕ). take k s) read_prefix_length ∙ own_front s present
@@ -118,30 +109,17 @@ module _ (constant : ℕ) (s : List ℕ) (m n : ℕ) (read : reading.Accepted m 
 
 -- ---- the parts that are handed back
 
-module _ (checksum : Checksum) (lent : Place) (s : List ℕ) where
-  module _ (n : ℕ) (read : reading.Refused n ≡ read_verdict (constant_for checksum) s) where
-    pub data_part_refused : DataPartGiven checksum lent s lent []
-    data_part_refused =
-        record {
-          content = ap (λ (r : Reading). part_of r (payload s)) read;
-          place =
-              ap (λ (k : ℕ). (lent.0, k)) (let e : lent.1 ≡ 0 + lent.1 = omega arith in e)
-              ∙ ap (λ (r : Reading). further lent (start_of r (length (prefix_part s) + 1))) read;
-        }
+module _ (checksum : Checksum) (lent : Place) (s : List ℕ) (h : Halves) (own : Halved (reading_rules (constant_for checksum) s) lent s (payload s) h) where
+  read : Ok (lengths_of h) ≡ read_verdict (constant_for checksum) s
+  read = read_accepted (constant_for checksum) lent s h own
 
-    pub prefix_part_refused : PrefixPartGiven checksum lent s lent []
-    prefix_part_refused = record { content = ap (λ (r : Reading). part_of r (prefix_part s)) read; place = refl }
+  pub data_part_accepted : DataPartGiven checksum lent s h.characters.ref_ptr h.characters.now
+  data_part_accepted =
+      record {
+        content = own.characters ∙ ap (λ (r : Result Parts Refusal). part_of r (payload s)) read;
+        place = own.characters_there ∙ ap (λ (r : Result Parts Refusal). further lent (start_of r (length (prefix_part s) + 1))) read;
+      }
 
-  module _ (m n : ℕ) (read : reading.Accepted m n ≡ read_verdict (constant_for checksum) s) (part : List ℕ) where
-    pub data_part_accepted : (at : Place) → at ≡ further lent (m + 1) → part ≡ take n (drop (m + 1) s) → DataPartGiven checksum lent s at part
-    data_part_accepted at there is =
-        record {
-          content = is ∙ read_payload (constant_for checksum) s m n read ∙ ap (λ (r : Reading). part_of r (payload s)) read;
-          place =
-              there ∙ ap (λ (k : ℕ). further lent (k + 1)) (read_prefix_length (constant_for checksum) s m n read)
-              ∙ ap (λ (r : Reading). further lent (start_of r (length (prefix_part s) + 1))) read;
-        }
-
-    pub prefix_part_accepted : (at : Place) → at ≡ lent → part ≡ take m s → PrefixPartGiven checksum lent s at part
-    prefix_part_accepted at there is =
-        record { content = is ∙ read_prefix (constant_for checksum) s m n read ∙ ap (λ (r : Reading). part_of r (prefix_part s)) read; place = there }
+  pub prefix_part_accepted : PrefixPartGiven checksum lent s h.prefix.ref_ptr h.prefix.now
+  prefix_part_accepted =
+      record { content = own.prefix ∙ ap (λ (r : Result Parts Refusal). part_of r (prefix_part s)) read; place = own.prefix_there }

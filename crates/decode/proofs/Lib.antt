@@ -1,9 +1,9 @@
 pub mod Scanning
 pub mod Splits
 pub mod Asked
-pub mod Told
 pub mod Stages
 pub mod Own
+pub mod Halving
 pub mod Generic
 pub mod Segwit
 pub mod Rooms

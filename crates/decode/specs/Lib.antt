@@ -3,5 +3,5 @@ pub mod Splitting
 pub mod Asked
 pub mod Symbols
 pub mod Places
-pub mod Numbers
+pub mod Halves
 pub mod Promises

@@ -5,291 +5,240 @@
 mod scan;
 mod symbols;
 
-ghost use Rattle.std.specs.Prelude.{◌≡◌, ◌+◌, ◌-◌, ◌≤◌, length, take, drop};
-ghost use Rattle.answers.specs.Numbers.{number_of_verdict};
+ghost use Rattle.std.specs.Prelude.{◌≡◌, ◌≤◌, length, MatchResult};
 ghost use Rattle.checksum.specs.Parameters.{constant_for};
-ghost use Rattle.decode.specs.Asked.{split_address, version_given, sum_verdict, program_in, judgement};
-ghost use Rattle.decode.specs.Numbers.{number_of_parted, number_of_version};
-ghost use Rattle.decode.specs.Places.{further};
+ghost use Rattle.answers.specs.Reading.{string_rules, reading_rules, data_part, payload};
+ghost use Rattle.decode.specs.Asked.{address_split_rules, split_address, version_given, sum_verdict, program_in, judgement};
+ghost use Rattle.decode.specs.Halves.{lengths_of, Halved};
 ghost use Rattle.decode.specs.Promises.{WasRead, DataPartGiven, PrefixPartGiven, SymbolsRead, BytesRead, AddressChecked, AddressRead, WasSplit};
 
-use answers::{Address, Reading, Verdict, Written};
+use answers::{Address, Parts};
 use checksum::{CHECKSUM_LENGTH, CODE_LENGTH, Checksum, Engine};
-use gf32::{Meaning, has_both_cases, has_outside};
-use numbers::{
-    ADDRESS_LONG, CHECKSUM_WRONG, DATA_SHORT, MIXED_CASE, NO_DATA, NO_SEPARATOR, OUTSIDE_CHARSET,
-    PREFIX_BYTE, PREFIX_EMPTY, PREFIX_LONG, ROOM_SMALL, STRING_LONG, VERSION_UNKNOWN,
-};
-use scan::{part_before, scan_data, scan_prefix};
+use gf32::{has_both_cases, has_outside};
+use numbers::Refusal;
+use scan::{is_printable, joined, scan_data};
 use symbols::put_symbols;
 
-// A string taken apart at its last separator: how long the prefix is, and how many characters stand after the separator.
+// A string taken apart where it lies: its prefix, and characters that stand after the separator.
 #[derive(Clone, Copy)]
-pub struct Parts {
-    pub prefix: usize,
-    pub symbols: usize,
+struct Halves<'a> {
+    prefix: &'a [u8],
+    characters: &'a [u8],
 }
 
-// What taking a string apart gives.
-#[derive(Clone, Copy)]
-pub enum Parted {
-    Into(Parts),
-    Refused(u8),
-}
-
-// The witness version of an address.
-#[derive(Clone, Copy)]
-enum Version {
-    Known(u8),
-    Refused(u8),
+impl Halves<'_> {
+    fn lengths(self) -> Parts
+        ensures { result ≡ lengths_of self.entry }
+    {
+        Parts {
+            prefix: self.prefix.len(),
+            symbols: self.characters.len(),
+        }
+    }
 }
 
 // Generic reading: document 01's order 1 to 9.
-pub fn read(checksum: Checksum, s: &[u8]) -> Reading
+#[tactic(auto, using(crate::proofs::Halving::read_accepted))]
+pub fn read(checksum: Checksum, s: &[u8]) -> Result<Parts, Refusal>
     ensures { WasRead checksum s.now result }
 {
-    let parted = split(s);
-    let Parted::Into(parts) = parted else {
-        return Reading::Refused(number_of(parted));
-    };
-    if CODE_LENGTH < s.len() {
-        return Reading::Refused(STRING_LONG);
-    }
-    let prefix = parts.prefix;
-    let verdict = check(&s[..prefix], part_after(s, prefix, parts.symbols), checksum);
-    let Verdict::Accepted = verdict else {
-        return Reading::Refused(number_of_verdict(verdict));
-    };
-    Reading::Accepted(prefix, parts.symbols - CHECKSUM_LENGTH)
+    let halves = read_halves(checksum, s)?;
+    Ok(halves.lengths())
 }
 
 // The data part with the checksum taken off, where it lies in the caller's slice; the empty part on a refusal.
 pub fn data_part(checksum: Checksum, s: &[u8]) -> &[u8]
     ensures { DataPartGiven checksum s.entry.ref_ptr s.now result.ref_ptr result.now }
 {
-    let reading = read(checksum, s);
-    let Reading::Accepted(prefix, symbols) = reading else {
-        return &s[..0];
-    };
-    part_after(s, prefix, symbols)
+    match read_halves(checksum, s) {
+        Ok(halves) => halves.characters,
+        Err(_) => &s[..0],
+    }
 }
 
 // The prefix, likewise.
 pub fn prefix_part(checksum: Checksum, s: &[u8]) -> &[u8]
     ensures { PrefixPartGiven checksum s.entry.ref_ptr s.now result.ref_ptr result.now }
 {
-    let reading = read(checksum, s);
-    let Reading::Accepted(prefix, _) = reading else {
-        return &s[..0];
-    };
-    &s[..prefix]
+    match read_halves(checksum, s) {
+        Ok(halves) => halves.prefix,
+        Err(_) => &s[..0],
+    }
 }
 
 // Generic reading into symbols.
-pub fn read_symbols(checksum: Checksum, s: &[u8], out: &mut [u8]) -> Written
+#[tactic(auto, using(crate::proofs::Rooms::symbols_refused))]
+pub fn read_symbols(checksum: Checksum, s: &[u8], out: &mut [u8]) -> Result<usize, Refusal>
     ensures { SymbolsRead checksum s.now out.old result out.new }
 {
-    match read(checksum, s) {
-        Reading::Accepted(prefix, symbols) => put_symbols(part_after(s, prefix, symbols), out),
-        Reading::Refused(number) => Written::Refused(number),
-    }
+    let halves = read_halves(checksum, s)?;
+    put_symbols(halves.characters, out)
 }
 
 // Generic reading into bytes; bits left over at the end are dropped unlooked.
-pub fn read_bytes(checksum: Checksum, s: &[u8], out: &mut [u8]) -> Written
+#[tactic(auto, using(crate::proofs::Rooms::bytes_refused))]
+pub fn read_bytes(checksum: Checksum, s: &[u8], out: &mut [u8]) -> Result<usize, Refusal>
     ensures { BytesRead checksum s.now out.old result out.new }
 {
-    match read(checksum, s) {
-        Reading::Accepted(prefix, symbols) => {
-            iter::characters_to_bytes(part_after(s, prefix, symbols), out)
-        }
-        Reading::Refused(number) => Written::Refused(number),
-    }
+    let halves = read_halves(checksum, s)?;
+    iter::characters_to_bytes(halves.characters, out)
 }
 
 // Segwit reading with no buffer to write to: document 01's order, 10 and 1 to 6 and then what is asked of the parts.
-pub fn check_address(s: &[u8]) -> Address
+#[tactic(auto, using(crate::proofs::Segwit::address_split_refused))]
+pub fn check_address(s: &[u8]) -> Result<Address, Refusal>
     ensures { AddressChecked s.now result }
 {
-    let parted = split_address(s);
-    let Parted::Into(parts) = parted else {
-        return Address::Refused(number_of(parted));
-    };
-    let prefix = parts.prefix;
-    judge(&s[..prefix], part_after(s, prefix, parts.symbols))
+    let halves = address_halves(s)?;
+    judge(halves)
 }
 
 // Segwit reading: the program, which starts after the version, goes into the lent buffer.
-pub fn read_address(s: &[u8], out: &mut [u8]) -> Address
+#[tactic(auto, using(crate::proofs::Rooms::address_refused, crate::proofs::Segwit::address_split_refused, crate::proofs::Segwit::judged_enough))]
+pub fn read_address(s: &[u8], out: &mut [u8]) -> Result<Address, Refusal>
     ensures { AddressRead s.now out.old result out.new }
 {
-    let parted = split_address(s);
-    let Parted::Into(parts) = parted else {
-        return Address::Refused(number_of(parted));
-    };
-    let prefix = parts.prefix;
-    let characters = part_after(s, prefix, parts.symbols);
-    let address = judge(&s[..prefix], characters);
-    let Address::Accepted(version, length) = address else {
-        return address;
-    };
-    if out.len() < length {
-        return Address::Refused(ROOM_SMALL);
-    }
-    iter::characters_to_bytes(program_of(characters), out);
-    Address::Accepted(version, length)
+    let halves = address_halves(s)?;
+    let address = judge(halves)?;
+    iter::characters_to_bytes(program_of(halves.characters), out)?;
+    Ok(address)
 }
 
-// Answers 1 to 6: characters and prefix. The checksum is not looked at.
-pub fn split(s: &[u8]) -> Parted
+// How long the prefix and the data part are of a string that 1 to 6 accept. The checksum is not looked at.
+#[tactic(auto, using(crate::proofs::Halving::split_accepted))]
+pub fn split(s: &[u8]) -> Result<Parts, Refusal>
     ensures { WasSplit s.now result }
+{
+    let halves = take_apart(s)?;
+    Ok(halves.lengths())
+}
+
+// Answers 1 to 6: characters and prefix.
+fn take_apart(s: &[u8]) -> Result<Halves, Refusal>
+    ensures { MatchResult result
+        (λ halves. Halved (string_rules s.now) s.entry.ref_ptr s.now (data_part s.now) halves)
+        (λ refusal. WasSplit s.now (Err refusal)) }
 {
     let table = gf32::classes();
     let tail = scan_data(&table, s);
     if has_outside(tail.classes) {
-        return Parted::Refused(OUTSIDE_CHARSET);
+        return Err(Refusal::OutsideCharset);
     }
-    let prefix = part_before(s, tail.start);
-    let front = scan_prefix(&table, prefix);
-    if has_both_cases(front.classes | tail.classes) {
-        return Parted::Refused(MIXED_CASE);
+    // Without a separator there is no prefix.
+    let prefix = &s[..tail.separator.unwrap_or(0)];
+    if has_both_cases(joined(&table, prefix) | tail.classes) {
+        return Err(Refusal::MixedCase);
     }
-    if tail.start == 0 {
-        return Parted::Refused(NO_SEPARATOR);
-    }
-    if prefix.len() == 0 {
-        return Parted::Refused(PREFIX_EMPTY);
+    let Some(separator) = tail.separator else {
+        return Err(Refusal::NoSeparator);
+    };
+    if prefix.is_empty() {
+        return Err(Refusal::PrefixEmpty);
     }
     if hrp::MAX_LENGTH < prefix.len() {
-        return Parted::Refused(PREFIX_LONG);
+        return Err(Refusal::PrefixLong);
     }
-    if !front.printable {
-        return Parted::Refused(PREFIX_BYTE);
+    if !is_printable(prefix) {
+        return Err(Refusal::PrefixByte);
     }
-    Parted::Into(Parts {
-        prefix: prefix.len(),
-        symbols: s.len() - tail.start,
+    Ok(Halves {
+        prefix,
+        characters: &s[separator + 1..],
+    })
+}
+
+// Answers 1 to 9: then the length, and the checksum, which is taken off.
+#[tactic(auto, using(crate::proofs::Asked::sum_enough))]
+fn read_halves(checksum: Checksum, s: &[u8]) -> Result<Halves, Refusal>
+    ensures { MatchResult result
+        (λ halves. Halved (reading_rules (constant_for checksum) s.now) s.entry.ref_ptr s.now (payload s.now) halves)
+        (λ refusal. WasRead checksum s.now (Err refusal)) }
+{
+    let halves = take_apart(s)?;
+    if CODE_LENGTH < s.len() {
+        return Err(Refusal::StringLong);
+    }
+    check(halves, checksum)?;
+    let end = halves.characters.len() - CHECKSUM_LENGTH;
+    Ok(Halves {
+        prefix: halves.prefix,
+        characters: &halves.characters[..end],
     })
 }
 
 // Answer 10, and then 1 to 6.
-fn split_address(s: &[u8]) -> Parted
-    ensures { result ≡ split_address s.now }
+#[tactic(auto, using(crate::proofs::Segwit::halves_long))]
+fn address_halves(s: &[u8]) -> Result<Halves, Refusal>
+    ensures { MatchResult result
+        (λ halves. Halved (address_split_rules s.now) s.entry.ref_ptr s.now (data_part s.now) halves)
+        (λ refusal. Err refusal ≡ split_address s.now) }
 {
     if segwit::MAX_STRING_LENGTH < s.len() {
-        return Parted::Refused(ADDRESS_LONG);
+        return Err(Refusal::AddressLong);
     }
-    split(s)
+    take_apart(s)
 }
 
 // What segwit reading asks of a prefix and of the characters after the separator, in document 01's order, in which 11 comes twice.
-fn judge(prefix: &[u8], characters: &[u8]) -> Address
-    ensures { result ≡ judgement prefix.now characters.now }
+#[tactic(auto, using(crate::proofs::Asked::sum_enough), unfolding(crate::specs::Asked::judgement, crate::specs::Asked::payload_verdict))]
+fn judge(halves: Halves) -> Result<Address, Refusal>
+    ensures { result ≡ judgement halves.entry.prefix.now halves.entry.characters.now }
 {
+    let characters = halves.characters;
     // 11 and 12
-    let first = version_of(characters);
-    let Version::Known(version) = first else {
-        return Address::Refused(number_of_version(first));
-    };
+    let version = version_of(characters)?;
     // 8 and 9
-    let verdict = check(prefix, characters, checksum::for_version(version));
-    let Verdict::Accepted = verdict else {
-        return Address::Refused(number_of_verdict(verdict));
-    };
+    check(halves, checksum::for_version(version))?;
     // 11 again, now that the checksum is off
     if characters.len() == CHECKSUM_LENGTH {
-        return Address::Refused(NO_DATA);
+        return Err(Refusal::NoData);
     }
     let program = program_of(characters);
     // 13 and 14
-    let padding = iter::padding_of_characters(program);
-    let Verdict::Accepted = padding else {
-        return Address::Refused(number_of_verdict(padding));
-    };
+    iter::padding_of_characters(program)?;
     // 15 and 16
     let length = iter::bytes_for_symbols(program);
-    let fit = segwit::check_program_length(version, length);
-    let Verdict::Accepted = fit else {
-        return Address::Refused(number_of_verdict(fit));
-    };
-    Address::Accepted(version, length)
+    segwit::check_program_length(version, length)?;
+    Ok(Address { version, length })
 }
 
 // Answers 11 and 12: the first character after the separator.
-fn version_of(characters: &[u8]) -> Version
+#[tactic(auto, unfolding(crate::specs::Asked::version_given, gf32::specs::Bytes::meaning, paper::specs::Charset::is_symbol))]
+fn version_of(characters: &[u8]) -> Result<u8, Refusal>
     ensures { result ≡ version_given characters.now }
 {
-    if characters.len() == 0 {
-        return Version::Refused(NO_DATA);
-    }
-    let meaning = gf32::from_byte(characters[0]);
-    let Meaning::Symbol(version) = meaning else {
-        return Version::Refused(VERSION_UNKNOWN);
+    let Some(&first) = characters.first() else {
+        return Err(Refusal::NoData);
     };
-    if segwit::MAX_VERSION < version {
-        return Version::Refused(VERSION_UNKNOWN);
+    match gf32::from_byte(first) {
+        Ok(version) if version <= segwit::MAX_VERSION => Ok(version),
+        _ => Err(Refusal::VersionUnknown),
     }
-    Version::Known(version)
 }
 
 // Answers 8 and 9: room for a checksum, and the checksum.
-fn check(prefix: &[u8], characters: &[u8], checksum: Checksum) -> Verdict
-    ensures { result ≡ sum_verdict (constant_for checksum) prefix.now characters.now }
+#[tactic(auto, using(crate::proofs::Asked::engine_came), unfolding(crate::specs::Asked::sum_verdict))]
+fn check(halves: Halves, checksum: Checksum) -> Result<(), Refusal>
+    ensures { result ≡ sum_verdict (constant_for checksum) halves.entry.prefix.now halves.entry.characters.now }
 {
-    if characters.len() < CHECKSUM_LENGTH {
-        return Verdict::Refused(DATA_SHORT);
+    if halves.characters.len() < CHECKSUM_LENGTH {
+        return Err(Refusal::DataShort);
     }
     let engine = Engine::new()
-        .input_prefix(prefix)
-        .input_characters(characters);
+        .input_prefix(halves.prefix)
+        .input_characters(halves.characters);
     if engine.residue() != checksum::constant(checksum) {
-        return Verdict::Refused(CHECKSUM_WRONG);
+        return Err(Refusal::ChecksumWrong);
     }
-    Verdict::Accepted
+    Ok(())
 }
 
 // Between the version and the checksum.
+#[tactic(auto, using(crate::proofs::Asked::program_there))]
 fn program_of(characters: &[u8]) -> &[u8]
     requires { 7 ≤ length characters.now }
     ensures { result.now ≡ program_in characters.now }
 {
     let end = characters.len() - CHECKSUM_LENGTH;
     &characters[1..end]
-}
-
-// So many characters after a prefix of this length and the separator.
-fn part_after(s: &[u8], prefix: usize, symbols: usize) -> &[u8]
-    requires { prefix + 1 + symbols ≤ length s.now }
-    ensures { (result.now ≡ take symbols (drop (prefix + 1) s.now)) × (result.ref_ptr ≡ further s.entry.ref_ptr (prefix + 1)) }
-{
-    let start = prefix + 1;
-    &s[start..start + symbols]
-}
-
-// The number of a refusal, and 0 where there is none.
-fn number_of(parted: Parted) -> u8
-    ensures { result ≡ number_of_parted parted }
-{
-    match parted {
-        Parted::Into(_) => 0,
-        Parted::Refused(number) => number,
-    }
-}
-
-fn number_of_version(version: Version) -> u8
-    ensures { result ≡ number_of_version version }
-{
-    match version {
-        Version::Known(_) => 0,
-        Version::Refused(number) => number,
-    }
-}
-
-fn number_of_verdict(verdict: Verdict) -> u8
-    ensures { result ≡ number_of_verdict verdict }
-{
-    match verdict {
-        Verdict::Accepted => 0,
-        Verdict::Refused(number) => number,
-    }
 }

@@ -1,64 +1,57 @@
-// The characters of a string, each looked at once and from the end: charset, case and the last separator.
-ghost use Rattle.std.specs.Prelude.{◌≡◌, ◌-◌, ◌≤◌, length, take};
-ghost use Rattle.gf32.specs.Promises.{ClassesGiven};
-ghost use Rattle.decode.specs.Scan.{DataScanned, PrefixScanned};
+// The characters of a string, each looked at once: charset, case and the last separator.
+ghost use Rattle.std.specs.Prelude.{◌≡◌};
+ghost use Rattle.laws.specs.Lists.{all};
+ghost use Rattle.paper.specs.Charset.{is_printable};
+ghost use Rattle.gf32.specs.Classes.{Joined};
+ghost use Rattle.decode.specs.Scan.{DataScanned};
+
+use gf32::Classes;
 
 const SEPARATOR: u8 = b'1';
 
-// The data part: where it starts, 0 where there is no separator; and the classes of its characters, joined bit by bit.
+// Where the last separator stands, and the classes of the characters after it, joined bit by bit: of all where there is none.
 #[derive(Clone, Copy)]
 pub(crate) struct Tail {
-    pub(crate) start: usize,
+    pub(crate) separator: Option<usize>,
     pub(crate) classes: u8,
 }
 
-// The prefix: the classes of its bytes, joined, and whether each of them is 33 to 126.
-#[derive(Clone, Copy)]
-pub(crate) struct Front {
-    pub(crate) classes: u8,
-    pub(crate) printable: bool,
-}
-
-pub(crate) fn scan_data(table: &[u8; 256], s: &[u8]) -> Tail
-    requires { ClassesGiven table.now }
+// From the end, in one pass. In a caller's body the loop would carry a counter for each number that is computed from the place.
+#[inline(never)]
+#[tactic(auto, using(crate::proofs::Scanning::none_begun))]
+pub(crate) fn scan_data(table: &Classes, s: &[u8]) -> Tail
     ensures { DataScanned s.now result }
 {
     let mut classes = 0;
-    let mut start = s.len();
-    while 0 < start {
-        let byte = s[start - 1];
+    for (at, &byte) in s.iter().enumerate().rev() {
         if byte == SEPARATOR {
-            return Tail { start, classes };
+            return Tail {
+                separator: Some(at),
+                classes,
+            };
         }
-        classes = table[byte as usize] | classes;
-        start -= 1;
+        classes |= table.class(byte);
     }
-    Tail { start, classes }
+    Tail {
+        separator: None,
+        classes,
+    }
 }
 
-pub(crate) fn scan_prefix(table: &[u8; 256], prefix: &[u8]) -> Front
-    requires { ClassesGiven table.now }
-    ensures { PrefixScanned prefix.now result }
+// The classes of all bytes, joined.
+#[tactic(auto, using(crate::proofs::Scanning::begun))]
+pub(crate) fn joined(table: &Classes, bytes: &[u8]) -> u8
+    ensures { Joined result bytes.now }
 {
     let mut classes = 0;
-    let mut printable = true;
-    let mut i = prefix.len();
-    while 0 < i {
-        let byte = prefix[i - 1];
-        classes = table[byte as usize] | classes;
-        printable = (33 <= byte) & (byte <= 126) & printable;
-        i -= 1;
+    for &byte in bytes.iter().rev() {
+        classes |= table.class(byte);
     }
-    Front { classes, printable }
+    classes
 }
 
-// What stands before the separator of a data part that starts here.
-pub(crate) fn part_before(s: &[u8], start: usize) -> &[u8]
-    requires { start ≤ length s.now }
-    ensures { result.now ≡ take (start - 1) s.now }
+pub(crate) fn is_printable(prefix: &[u8]) -> bool
+    ensures { result ≡ all is_printable prefix.now }
 {
-    if start == 0 {
-        return &s[..0];
-    }
-    &s[..start - 1]
+    prefix.iter().all(|byte| byte.is_ascii_graphic())
 }

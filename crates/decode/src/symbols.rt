@@ -3,27 +3,25 @@ ghost use Rattle.std.specs.Prelude.{◌≡◌, ◌++◌, map, ◌≤◌, length,
 ghost use Rattle.paper.specs.Charset.{symbol};
 ghost use Rattle.iter.specs.Writing.{Wrote};
 
-use answers::Written;
-use numbers::ROOM_SMALL;
+use numbers::Refusal;
 
-pub(crate) fn put_symbols(characters: &[u8], out: &mut [u8]) -> Written
+pub(crate) fn put_symbols(characters: &[u8], out: &mut [u8]) -> Result<usize, Refusal>
     ensures { Wrote (map symbol characters.now) out.old result out.new }
 {
     if out.len() < characters.len() {
-        return Written::Refused(ROOM_SMALL);
+        return Err(Refusal::RoomSmall);
     }
     fill_symbols(characters, out);
-    Written::Accepted(characters.len())
+    Ok(characters.len())
 }
 
 fn fill_symbols(characters: &[u8], out: &mut [u8])
     requires { length characters.now ≤ length out.old }
     ensures { out.new ≡ map symbol characters.now ++ drop (length characters.now) out.old }
 {
-    let table = gf32::classes();
-    let mut i = 0;
-    while i < characters.len() {
-        out[i] = gf32::class_symbol(table[characters[i] as usize]);
-        i += 1;
+    let classes = gf32::classes();
+    // By place: of a slice that is written through `iter_mut().zip(..)` a proof knows the length alone.
+    for (i, &character) in characters.iter().enumerate() {
+        out[i] = classes.symbol(character);
     }
 }

@@ -1,6 +1,6 @@
 -- Wrong answers that the promises exclude, each on a concrete input: a writer that refuses everything, one that writes under the other checksum or the other
 -- version, one that asks too much or nothing of the room, and lengths that are constant or measured in another room.
-use mathlib.Core.Path.{◌≡◌, refl, ap, ◌∙◌}
+use mathlib.Core.Path.{◌≡◌, refl, sym, ap, ◌∙◌}
 use mathlib.Core.List.{List, [], ◌∷◌, ◌++◌}
 use Prim.Native.Nat.{ℕ}
 use native.Mathlib.Omega.{arith}
@@ -8,15 +8,14 @@ use lib.ListN.{get_or, replicate}
 use Rattle.laws.specs.Text.{bytes}
 use Rattle.paper.specs.Checksum.{bech32}
 use Rattle.answers.specs.Writing.{write_verdict, write_bytes_verdict, write_address_verdict}
-use Rattle.answers.specs.declared.Written.{Written}
-use Rattle.answers.specs.declared.Written.TheVariants as written
 use Rattle.answers.proofs.Computing.{computing}
 use Rattle.answers.proofs.Cases.{write_90}
 use Rattle.checksum.specs.declared.Checksum.TheVariants.{Bech32, Bech32m}
 use Rattle.encode.specs.Promises.{SymbolsWritten, BytesWritten, AddressWritten, Version0Written, Version1Written, LengthGiven, AddressLengthGiven}
-
-written_apart : (m n : ℕ) → written.Refused n ≡ written.Accepted m → ⊥
-written_apart m n e = let z : ◌≡◌ {A = ℕ} 0 1 = cc in omega arith
+use Rattle.numbers.proofs.Numbers.{err_apart}
+use Rattle.numbers.specs.declared.Refusal.{Refusal}
+use Rattle.numbers.specs.declared.Refusal.TheVariants.{RoomSmall}
+use Rattle.std.specs.Prelude.{Result, Ok, Err}
 
 -- the byte at a place of a buffer
 at : ℕ → List ℕ → ℕ
@@ -24,85 +23,85 @@ at i l = get_or l i 0
 
 -- ---- write_symbols: BIP-173's and BIP-350's shortest strings, a12uel5l and a1lqfn3a
 
-symbol_31 : write_verdict bech32 (bytes "a") (31 ∷ []) 9 ≡ written.Accepted 9
+symbol_31 : write_verdict bech32 (bytes "a") (31 ∷ []) 9 ≡ Ok 9
 unfolding computing
 symbol_31 = refl
 
-pub symbols_31_accepted : (n : ℕ) (after : List ℕ) → SymbolsWritten Bech32 (bytes "a") (31 ∷ []) (replicate 9 0) (written.Refused n) after → ⊥
-symbols_31_accepted n after p = written_apart 9 n (p.answer ∙ symbol_31)
+pub symbols_31_accepted : (refusal : Refusal) (after : List ℕ) → SymbolsWritten Bech32 (bytes "a") (31 ∷ []) (replicate 9 0) (Err refusal) after → ⊥
+symbols_31_accepted refusal after p = err_apart 9 refusal (p.answer ∙ symbol_31)
 
-pub symbols_under_bech32 : (r : Written) → SymbolsWritten Bech32 (bytes "a") [] (replicate 8 0) r (bytes "a1lqfn3a") → ⊥
+pub symbols_under_bech32 : (r : Result ℕ Refusal) → SymbolsWritten Bech32 (bytes "a") [] (replicate 8 0) r (bytes "a1lqfn3a") → ⊥
 unfolding computing at
 symbols_under_bech32 r p = let e : ◌≡◌ {A = ℕ} 108 50 = ap (at 2) p.buffer in omega arith
 
 -- ---- write_bytes
 
-shortest : write_bytes_verdict bech32 (bytes "a") [] 8 ≡ written.Accepted 8
+shortest : write_bytes_verdict bech32 (bytes "a") [] 8 ≡ Ok 8
 unfolding computing
 shortest = refl
 
-pub bytes_not_always_refused : (n : ℕ) (after : List ℕ) → BytesWritten Bech32 (bytes "a") [] (replicate 8 0) (written.Refused n) after → ⊥
-bytes_not_always_refused n after p = written_apart 8 n (p.answer ∙ shortest)
+pub bytes_not_always_refused : (refusal : Refusal) (after : List ℕ) → BytesWritten Bech32 (bytes "a") [] (replicate 8 0) (Err refusal) after → ⊥
+bytes_not_always_refused refusal after p = err_apart 8 refusal (p.answer ∙ shortest)
 
-pub bytes_under_bech32m : (r : Written) → BytesWritten Bech32m (bytes "a") [] (replicate 8 0) r (bytes "a12uel5l") → ⊥
+pub bytes_under_bech32m : (r : Result ℕ Refusal) → BytesWritten Bech32m (bytes "a") [] (replicate 8 0) r (bytes "a12uel5l") → ⊥
 unfolding computing at
 bytes_under_bech32m r p = let e : ◌≡◌ {A = ℕ} 50 108 = ap (at 2) p.buffer in omega arith
 
 -- ---- write_address: bc1q begins one of version 0, bc1p one of version 1
 
-pub address_asks_the_room : (after : List ℕ) → AddressWritten (bytes "bc") 0 (replicate 20 0) (replicate 41 0) (written.Accepted 42) after → ⊥
+pub address_asks_the_room : (after : List ℕ) → AddressWritten (bytes "bc") 0 (replicate 20 0) (replicate 41 0) (Ok 42) after → ⊥
 unfolding computing
-address_asks_the_room after p = let e : written.Refused 17 ≡ written.Accepted 42 = cc p.answer in written_apart 42 17 e
+address_asks_the_room after p = err_apart 42 RoomSmall (sym p.answer)
 
-pub address_of_its_version : (r : Written) (rest : List ℕ) → AddressWritten (bytes "bc") 1 (replicate 32 0) (replicate 62 0) r (bytes "bc1q" ++ rest) → ⊥
+pub address_of_its_version : (r : Result ℕ Refusal) (rest : List ℕ) → AddressWritten (bytes "bc") 1 (replicate 32 0) (replicate 62 0) r (bytes "bc1q" ++ rest) → ⊥
 unfolding computing at
 address_of_its_version r rest p = let e : ◌≡◌ {A = ℕ} 113 112 = ap (at 3) p.buffer in omega arith
 
-key_hash : write_address_verdict (bytes "bc") 0 (replicate 20 0) 42 ≡ written.Accepted 42
+key_hash : write_address_verdict (bytes "bc") 0 (replicate 20 0) 42 ≡ Ok 42
 unfolding computing
 key_hash = refl
 
-output_key : write_address_verdict (bytes "bc") 1 (replicate 32 0) 62 ≡ written.Accepted 62
+output_key : write_address_verdict (bytes "bc") 1 (replicate 32 0) 62 ≡ Ok 62
 unfolding computing
 output_key = refl
 
-pub v0_not_always_refused : (n : ℕ) (after : List ℕ) → Version0Written (bytes "bc") (replicate 20 0) (replicate 42 0) (written.Refused n) after → ⊥
-v0_not_always_refused n after p = written_apart 42 n (p.answer ∙ key_hash)
+pub v0_not_always_refused : (refusal : Refusal) (after : List ℕ) → Version0Written (bytes "bc") (replicate 20 0) (replicate 42 0) (Err refusal) after → ⊥
+v0_not_always_refused refusal after p = err_apart 42 refusal (p.answer ∙ key_hash)
 
-pub v0_not_version_1 : (r : Written) (rest : List ℕ) → Version0Written (bytes "bc") (replicate 20 0) (replicate 42 0) r (bytes "bc1p" ++ rest) → ⊥
+pub v0_not_version_1 : (r : Result ℕ Refusal) (rest : List ℕ) → Version0Written (bytes "bc") (replicate 20 0) (replicate 42 0) r (bytes "bc1p" ++ rest) → ⊥
 unfolding computing at
 v0_not_version_1 r rest p = let e : ◌≡◌ {A = ℕ} 112 113 = ap (at 3) p.buffer in omega arith
 
-pub v1_not_always_refused : (n : ℕ) (after : List ℕ) → Version1Written (bytes "bc") (replicate 32 0) (replicate 62 0) (written.Refused n) after → ⊥
-v1_not_always_refused n after p = written_apart 62 n (p.answer ∙ output_key)
+pub v1_not_always_refused : (refusal : Refusal) (after : List ℕ) → Version1Written (bytes "bc") (replicate 32 0) (replicate 62 0) (Err refusal) after → ⊥
+v1_not_always_refused refusal after p = err_apart 62 refusal (p.answer ∙ output_key)
 
-pub v1_not_version_0 : (r : Written) (rest : List ℕ) → Version1Written (bytes "bc") (replicate 32 0) (replicate 62 0) r (bytes "bc1q" ++ rest) → ⊥
+pub v1_not_version_0 : (r : Result ℕ Refusal) (rest : List ℕ) → Version1Written (bytes "bc") (replicate 32 0) (replicate 62 0) r (bytes "bc1q" ++ rest) → ⊥
 unfolding computing at
 v1_not_version_0 r rest p = let e : ◌≡◌ {A = ℕ} 113 112 = ap (at 3) p.buffer in omega arith
 
 -- ---- lengths
 
-longest_room : write_bytes_verdict bech32 (bytes "a") [] 1023 ≡ written.Accepted 8
+longest_room : write_bytes_verdict bech32 (bytes "a") [] 1023 ≡ Ok 8
 unfolding computing
 longest_room = refl
 
-over_90 : write_bytes_verdict bech32 (bytes "a") (replicate 60 0) 1023 ≡ written.Accepted 104
+over_90 : write_bytes_verdict bech32 (bytes "a") (replicate 60 0) 1023 ≡ Ok 104
 unfolding computing
 over_90 = refl
 
-address_room : write_address_verdict (bytes "bc") 0 (replicate 20 0) 90 ≡ written.Accepted 42
+address_room : write_address_verdict (bytes "bc") 0 (replicate 20 0) 90 ≡ Ok 42
 unfolding computing
 address_room = refl
 
-pub length_not_always_1023 : LengthGiven (bytes "a") [] (written.Accepted 1023) → ⊥
+pub length_not_always_1023 : LengthGiven (bytes "a") [] (Ok 1023) → ⊥
 length_not_always_1023 p = let z : ◌≡◌ {A = ℕ} 1023 8 = cc (p, longest_room) in omega arith
 
-pub length_over_90 : (n : ℕ) → LengthGiven (bytes "a") (replicate 60 0) (written.Refused n) → ⊥
-length_over_90 n p = written_apart 104 n (p ∙ over_90)
+pub length_over_90 : (refusal : Refusal) → LengthGiven (bytes "a") (replicate 60 0) (Err refusal) → ⊥
+length_over_90 refusal p = err_apart 104 refusal (p ∙ over_90)
 
-pub address_length_not_always_90 : AddressLengthGiven (bytes "bc") 0 (replicate 20 0) (written.Accepted 90) → ⊥
+pub address_length_not_always_90 : AddressLengthGiven (bytes "bc") 0 (replicate 20 0) (Ok 90) → ⊥
 address_length_not_always_90 p = let z : ◌≡◌ {A = ℕ} 90 42 = cc (p, address_room) in omega arith
 
 -- document 01's longest address
-pub address_length_90 : (n : ℕ) → AddressLengthGiven (replicate 30 97) 1 (replicate 32 0) (written.Refused n) → ⊥
-address_length_90 n p = written_apart 90 n (p ∙ write_90)
+pub address_length_90 : (refusal : Refusal) → AddressLengthGiven (replicate 30 97) 1 (replicate 32 0) (Err refusal) → ⊥
+address_length_90 refusal p = err_apart 90 refusal (p ∙ write_90)

@@ -10,33 +10,17 @@ use borrow.Rule.Slice.PartMut.{put_mid}
 use lib.ListN.{length, take, drop, set, get_or, drop_of_length-le, length-append, length-drop, length-map}
 use lib.Seq.{take_at, drop_at, take-suc, append_snoc, drop-drop, length-take-le, set_at}
 use Rattle.laws.specs.Lists.{Every}
-use Rattle.laws.proofs.Front.{front, map_all}
 use Rattle.laws.proofs.Parts.{rest}
 use Rattle.paper.specs.Charset.{lower, letter}
-use Rattle.paper.specs.Checksum.{polymod, expand, six_symbols, checksum}
+use Rattle.paper.specs.Checksum.{six_symbols, checksum}
 use Rattle.answers.specs.Reading.{room_small, written_into}
 use Rattle.answers.specs.Writing.{written_string}
-use Rattle.answers.specs.declared.Written.{Written}
 use Rattle.gf32.specs.Bytes.{character}
-use Rattle.checksum.specs.Parameters.{constant_for}
-use Rattle.checksum.specs.declared.Checksum.{Checksum}
-use Rattle.checksum.specs.declared.Engine.{Engine}
-use Rattle.checksum.proofs.Written.{engine_writes}
 use Rattle.iter.proofs.Groups.{every_append}
 use Rattle.hrp.specs.Promises.{Folded}
 use Rattle.encode.proofs.Lengths.{written_length, check_small}
-
--- a list mapped in place, to its end
-pub whole_mapped : (f : ℕ → ℕ) (d : List ℕ) (i : ℕ) → length d ≤ i → i ≤ length d → front (map f d) d i ≡ map f d
-whole_mapped f d i h k =
-    map_all 0 f d d i h k ∙ ap (λ (l : List ℕ). map f d ++ l) (drop_of_length-le d {i = length d} (omega arith)) ∙ append-nil (map f d)
-
--- an engine's residue once the target is in
-pub engine_shows : (code : Checksum) (prefix symbols : List ℕ) (new prefixed full target : Engine) (residue : ℕ)
-    → new.residue ≡ 1 → prefixed.residue ≡ polymod new.residue (expand (map lower prefix)) → full.residue ≡ polymod prefixed.residue symbols
-    → target.residue ≡ polymod full.residue (six_symbols (constant_for code)) → residue ≡ target.residue
-    → six_symbols residue ≡ checksum (constant_for code) prefix symbols
-engine_shows code prefix symbols new prefixed full target residue a b d e f = rw (f, e, d, b, a) (sym (engine_writes code prefix symbols))
+use Rattle.numbers.specs.declared.Refusal.{Refusal}
+use Rattle.std.specs.Prelude.{Result}
 
 -- a part that reaches to the end, put back
 pub tail_put : (a : ℕ) (d tail : List ℕ) → put_mid a (length d - a) d tail ≡ take a d ++ tail
@@ -46,10 +30,9 @@ tail_put a d tail =
 
 -- ---- the data part: the checksum after its symbols, then all of them as letters
 
-module _ (residue count : ℕ) (d : List ℕ) (room : count + 6 ≤ length d) (tail : List ℕ)
-    (put : tail ≡ six_symbols residue ++ drop 6 (take (length d - count) (drop count d))) where
+module _ (residue count : ℕ) (d : List ℕ) (room : count + 6 ≤ length d) (place : List ℕ) (put : place ≡ six_symbols residue) where
   abbrev checked : List ℕ
-  checked = put_mid count (length d - count) d tail
+  checked = put_mid count (count + 6 - count) d place
 
   abbrev all_symbols : List ℕ
   all_symbols = take count d ++ six_symbols residue
@@ -59,15 +42,11 @@ module _ (residue count : ℕ) (d : List ℕ) (room : count + 6 ≤ length d) (t
 
   stands : checked ≡ all_symbols ++ drop (count + 6) d
   stands =
-      tail_put count d tail
-      ∙ ap (λ (l : List ℕ). take count d ++ l) (put ∙ ap (λ (l : List ℕ). six_symbols residue ++ l) (ap (drop 6) (rest d count) ∙ drop-drop 6 count d))
+      ap₂ (λ (six past : List ℕ). take count d ++ (six ++ past)) put (drop-drop (count + 6 - count) count d ∙ ap (λ (k : ℕ). drop k d) end)
       ∙ sym (append_assoc (take count d) (six_symbols residue) (drop (count + 6) d))
-
-  pub letters_count : count + 6 ≡ length (take (count + 6) checked)
-  letters_count =
-      sym (ap (λ (l : List ℕ). length (take (count + 6) l)) stands
-      ∙ ap length (take_at all_symbols (drop (count + 6) d) (count + 6) all_count)
-      ∙ all_count)
+    where
+      end : count + (count + 6 - count) ≡ count + 6
+      end = omega arith
 
   pub data_written : (letters : List ℕ) → letters ≡ map character (take (count + 6) checked)
       → letters ++ drop (count + 6) checked ≡ map character (take count d ++ six_symbols residue) ++ drop (count + 6) d
@@ -86,7 +65,7 @@ characters_letters [] p = refl
 characters_letters (v ∷ s) p = ap₂ ◌∷◌ (ap letter (mod-eq_of_lt p.0)) (characters_letters s p.1)
 
 -- the prefix in lower case where there is room for it
-pub folded_front : (prefix before : List ℕ) (r : Written) (after : List ℕ) → length prefix ≤ length before → Folded prefix before r after
+pub folded_front : (prefix before : List ℕ) (r : Result ℕ Refusal) (after : List ℕ) → length prefix ≤ length before → Folded prefix before r after
     → after ≡ map lower prefix ++ drop (length prefix) before
 unfolding written_into room_small
 folded_front prefix before r after h f =
@@ -127,7 +106,7 @@ module _ (constant : ℕ) (prefix : List ℕ) (count : ℕ) (d : List ℕ) (room
         ∙ append_snoc (take (length prefix) d) (get_or d (length prefix) 0) part)
         ∙ set_at (take (length prefix) d) (get_or d (length prefix) 0) part 49 (length prefix) (length-take-le (length prefix) d (omega arith))
 
-    pub string_written : (r : Written) (out : List ℕ)
+    pub string_written : (r : Result ℕ Refusal) (out : List ℕ)
         → Folded prefix (set (put_mid (length prefix + 1) (length d - (length prefix + 1)) d part) (length prefix) 49) r out
         → out ≡ written_string constant prefix symbols ++ after
     unfolding written_string

@@ -13,32 +13,37 @@ use Rattle.laws.proofs.Parts.{rest}
 use Rattle.paper.specs.Bits.{to_symbols}
 use Rattle.answers.specs.Reading.{room_small, written_into}
 use Rattle.answers.specs.Writing.{written_string, written_address}
-use Rattle.answers.specs.declared.Written.{Written}
 use Rattle.checksum.specs.Parameters.{constant_for, checksum_for}
 use Rattle.checksum.specs.declared.Checksum.{Checksum}
 use Rattle.checksum.proofs.Constants.{constant_of_version}
 use Rattle.iter.specs.Writing.{Wrote}
 use Rattle.iter.proofs.Lengths.{symbols_below}
 use Rattle.encode.proofs.Filling.{tail_put}
+use Rattle.numbers.specs.declared.Refusal.{Refusal}
+use Rattle.std.specs.Prelude.{Result}
 
 -- a list written into a buffer at a place
 abbrev pub laid_at : ℕ → List ℕ → List ℕ → List ℕ
 laid_at start content d = take start d ++ (content ++ drop (start + length content) d)
 
--- by a callee that was lent the rest of the buffer
-pub laid_rest : (start : ℕ) (content d tail : List ℕ) → tail ≡ content ++ drop (length content) (take (length d - start) (drop start d))
-    → put_mid start (length d - start) d tail ≡ laid_at start content d
-laid_rest start content d tail e =
-    tail_put start d tail
-    ∙ ap (λ (l : List ℕ). take start d ++ l)
-    (e ∙ ap (λ (l : List ℕ). content ++ l) (ap (drop (length content)) (rest d start) ∙ drop-drop (length content) start d))
+-- as a copy leaves it
+pub laid_copied : (start : ℕ) (content d part : List ℕ) → part ≡ content
+    → put_mid start (start + length content - start) d part ≡ laid_at start content d
+laid_copied start content d part e =
+    ap₂ (λ (a b : List ℕ). take start d ++ (a ++ b)) e (drop-drop (start + length content - start) start d ∙ ap (λ (k : ℕ). drop k d) end)
+  where
+    end : start + (start + length content - start) ≡ start + length content
+    end = omega arith
 
 -- by regrouping, which has room enough there
-pub laid_regrouped : (start : ℕ) (content d : List ℕ) (r : Written) (tail : List ℕ) → start + length content ≤ length d
+pub laid_regrouped : (start : ℕ) (content d : List ℕ) (r : Result ℕ Refusal) (tail : List ℕ) → start + length content ≤ length d
     → Wrote content (take (length d - start) (drop start d)) r tail → put_mid start (length d - start) d tail ≡ laid_at start content d
 unfolding written_into room_small
 laid_regrouped start content d r tail h w =
-    laid_rest start content d tail (w.buffer ∙ rw (le-ltb (length (take (length d - start) (drop start d))) (length content) enough))
+    tail_put start d tail
+    ∙ ap (λ (l : List ℕ). take start d ++ l)
+    (w.buffer ∙ rw (le-ltb (length (take (length d - start) (drop start d))) (length content) enough)
+    (ap (λ (l : List ℕ). content ++ l) (ap (drop (length content)) (rest d start) ∙ drop-drop (length content) start d)))
   where
     enough : length content ≤ length (take (length d - start) (drop start d))
     enough = omega (arith, ap length (rest d start), length-drop start d)
@@ -114,7 +119,7 @@ module _ (prefix content d : List ℕ) (count : ℕ) (all : count ≡ length con
 -- ---- an address: the version is stored, and the program's symbols are laid behind it
 
 module _ (prefix : List ℕ) (version : ℕ) (program d : List ℕ) (n : ℕ) (all : n ≡ length (to_symbols program))
-    (room : length prefix + 7 + (1 + length (to_symbols program)) ≤ length d) (r : Written) (tail : List ℕ)
+    (room : length prefix + 7 + (1 + length (to_symbols program)) ≤ length d) (r : Result ℕ Refusal) (tail : List ℕ)
     (w : Wrote (to_symbols program)
     (take (length (set d (length prefix + 1) version) - (length prefix + 1 + 1)) (drop (length prefix + 1 + 1) (set d (length prefix + 1) version))) r tail)
   where

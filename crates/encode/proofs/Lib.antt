@@ -1,6 +1,5 @@
 pub mod Lengths
 pub mod Large
-pub mod Sizes
 pub mod Orders
 pub mod Accepted
 pub mod Answers

@@ -16,9 +16,6 @@ use Rattle.paper.specs.Bits.{to_bytes, to_symbols}
 use Rattle.paper.specs.Valid.{ValidString, ValidAddress}
 use Rattle.answers.specs.Reading.{data_part, prefix_part, payload, payload_symbols, version_of, program_of, checksum_wrong, read_verdict, address_verdict}
 use Rattle.answers.specs.Writing.{written_string, written_address, write_verdict, write_address_verdict}
-use Rattle.answers.specs.declared.Reading.TheVariants as reading
-use Rattle.answers.specs.declared.Address.TheVariants as address
-use Rattle.answers.specs.declared.Written.TheVariants as wrote
 use Rattle.answers.proofs.Exact.{valid_data, valid_prefix, valid_checked, valid_version, valid_program, reads_exactly, address_exactly}
 use Rattle.checksum.proofs.Constants.{constant_of_version, constant_lt}
 use Rattle.checksum.specs.Parameters.{checksum_for}
@@ -33,6 +30,8 @@ use Rattle.iter.proofs.Round.{bytes_round, written_padding_short, written_paddin
 use Rattle.encode.proofs.Accepted.{symbols_accepted, address_accepted}
 use Rattle.encode.proofs.Lengths.{check_length, check_small, written_length}
 use Rattle.encode.proofs.Letters.{symbols_letters, letters_are_symbols, letters_not_upper, letters_no_separator}
+use Rattle.answers.specs.Reading.{accepts_parts, accepts_address}
+use Rattle.std.specs.Prelude.{Ok}
 
 -- the checksum's prefix may be written in either case
 folded_residue : (prefix symbols : List ℕ) → residue (map lower prefix) symbols ≡ residue prefix symbols
@@ -112,7 +111,7 @@ module _ (constant : ℕ) (prefix symbols : List ℕ) (legal : Legal prefix) (sm
   written_symbols = ap (map symbol) written_payload ∙ symbols_letters symbols small
 
   -- What is written is read, under the same checksum: the prefix's length and the symbols' number.
-  pub written_is_read : length prefix + 7 + length symbols ≤ 1023 → read_verdict constant written ≡ reading.Accepted (length prefix) (length symbols)
+  pub written_is_read : length prefix + 7 + length symbols ≤ 1023 → read_verdict constant written ≡ accepts_parts (length prefix) (length symbols)
   written_is_read h =
       (reads_exactly constant written (length prefix) (length symbols)).1
       (record {
@@ -171,7 +170,7 @@ module _ (prefix : List ℕ) (version : ℕ) (program : List ℕ) (legal : Legal
   address_program = valid_program (written_address prefix version program) version program address_valid
 
   -- An address that is written is read: its version and its program's length.
-  pub address_is_read : address_verdict (written_address prefix version program) ≡ address.Accepted version (length program)
+  pub address_is_read : address_verdict (written_address prefix version program) ≡ accepts_address version (length program)
   address_is_read =
       (address_exactly (written_address prefix version program) version (length program)).1
       (record { program = program; valid = address_valid; program_length = refl })
@@ -179,15 +178,15 @@ module _ (prefix : List ℕ) (version : ℕ) (program : List ℕ) (legal : Legal
 -- ---- the same from what the writers answered
 
 pub accepted_is_read : (constant : ℕ) (prefix symbols : List ℕ) (room n : ℕ) → constant < 2 ^ 30
-    → write_verdict constant prefix symbols room ≡ wrote.Accepted n
-    → read_verdict constant (written_string constant prefix symbols) ≡ reading.Accepted (length prefix) (length symbols)
+    → write_verdict constant prefix symbols room ≡ Ok n
+    → read_verdict constant (written_string constant prefix symbols) ≡ accepts_parts (length prefix) (length symbols)
 accepted_is_read constant prefix symbols room n k e =
     let fit = (symbols_accepted constant prefix symbols room n).0 e in
     written_is_read constant prefix symbols fit.legal fit.small k fit.not_long
 
 pub accepted_address_is_read : (prefix : List ℕ) (version : ℕ) (program : List ℕ) (room n : ℕ) → Every (λ v. v < 256) program
-    → write_address_verdict prefix version program room ≡ wrote.Accepted n
-    → (address_verdict (written_address prefix version program) ≡ address.Accepted version (length program))
+    → write_address_verdict prefix version program room ≡ Ok n
+    → (address_verdict (written_address prefix version program) ≡ accepts_address version (length program))
     × (program_of (written_address prefix version program) ≡ program)
 accepted_address_is_read prefix version program room n bytes e =
     let fit = (address_accepted prefix version program room n).0 e in (

@@ -18,9 +18,6 @@ use Rattle.paper.specs.Valid.{ValidString, ValidAddress}
 use Rattle.answers.specs.Rules.{padding_long, padding_not_zero}
 use Rattle.answers.specs.Reading.{prefix_part, payload, payload_symbols, version_of, program_of, read_verdict, address_verdict}
 use Rattle.answers.specs.Writing.{written_string, written_address, write_verdict, write_address_verdict}
-use Rattle.answers.specs.declared.Reading.TheVariants as reading
-use Rattle.answers.specs.declared.Address.TheVariants as address
-use Rattle.answers.specs.declared.Written.TheVariants as written
 use Rattle.answers.proofs.Exact.{valid_data, valid_prefix, valid_version, valid_program, reads_exactly, address_exactly, bit_zero}
 use Rattle.checksum.proofs.Written.{checksum_only}
 use Rattle.hrp.specs.Prefix.{Legal}
@@ -29,6 +26,8 @@ use Rattle.iter.proofs.Round.{symbols_round}
 use Rattle.encode.proofs.Accepted.{symbols_accepted, address_accepted}
 use Rattle.encode.proofs.Letters.{letters_symbols}
 use Rattle.encode.proofs.ReadBack.{version_constant_lt}
+use Rattle.answers.specs.Reading.{accepts_parts, accepts_address}
+use Rattle.std.specs.Prelude.{Ok}
 
 symbols_below : (d : List ℕ) → Every (λ c. symbol c < 32) d → Every (λ v. v < 32) (map symbol d)
 symbols_below [] p = tt
@@ -79,7 +78,7 @@ module _ (constant limit : ℕ) (s p d : List ℕ) (k : constant < 2 ^ 30) (v : 
 -- ---- strings
 
 -- What generic reading accepts, written again from its prefix and its symbols, is the string in lower case.
-pub rewritten_is_lower : (constant : ℕ) (s : List ℕ) (m n : ℕ) → constant < 2 ^ 30 → read_verdict constant s ≡ reading.Accepted m n
+pub rewritten_is_lower : (constant : ℕ) (s : List ℕ) (m n : ℕ) → constant < 2 ^ 30 → read_verdict constant s ≡ accepts_parts m n
     → written_string constant (prefix_part s) (payload_symbols s) ≡ map lower s
 unfolding payload_symbols payload
 rewritten_is_lower constant s m n k e =
@@ -127,7 +126,7 @@ module _ (s : List ℕ) (v : ℕ) (program : List ℕ) (a : ValidAddress s v pro
       ∙ valid_again (constant_of v) 90 s a.prefix a.data_part (version_constant_lt v) a.string
 
 -- What segwit reading accepts, written again from its prefix, version and program, is the address in lower case.
-pub readdressed_is_lower : (s : List ℕ) (v n : ℕ) → address_verdict s ≡ address.Accepted v n
+pub readdressed_is_lower : (s : List ℕ) (v n : ℕ) → address_verdict s ≡ accepts_address v n
     → written_address (prefix_part s) (version_of s) (program_of s) ≡ map lower s
 readdressed_is_lower s v n e =
     let r = (address_exactly s v n).0 e in
@@ -177,8 +176,8 @@ valid_length constant limit s p d v =
       length-append p (49 ∷ d),
     )
 
-pub reread_is_written : (constant : ℕ) (s : List ℕ) (m n room : ℕ) → read_verdict constant s ≡ reading.Accepted m n → length s ≤ room
-    → write_verdict constant (prefix_part s) (payload_symbols s) room ≡ written.Accepted (length s)
+pub reread_is_written : (constant : ℕ) (s : List ℕ) (m n room : ℕ) → read_verdict constant s ≡ accepts_parts m n → length s ≤ room
+    → write_verdict constant (prefix_part s) (payload_symbols s) room ≡ Ok (length s)
 unfolding payload_symbols payload
 reread_is_written constant s m n room e h =
     let r = (reads_exactly constant s m n).0 e in
@@ -195,8 +194,8 @@ reread_is_written constant s m n room e h =
       count = size;
     })
 
-pub readdressed_is_written : (s : List ℕ) (v n room : ℕ) → address_verdict s ≡ address.Accepted v n → length s ≤ room
-    → write_address_verdict (prefix_part s) (version_of s) (program_of s) room ≡ written.Accepted (length s)
+pub readdressed_is_written : (s : List ℕ) (v n room : ℕ) → address_verdict s ≡ accepts_address v n → length s ≤ room
+    → write_address_verdict (prefix_part s) (version_of s) (program_of s) room ≡ Ok (length s)
 readdressed_is_written s v n room e h =
     let r = (address_exactly s v n).0 e in
     let a = r.valid in

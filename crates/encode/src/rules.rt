@@ -1,94 +1,93 @@
 // The orders of refusal for writers. Nothing is written here: the buffer comes in by its length alone.
-ghost use Rattle.std.specs.Prelude.{◌≡◌, ℕ, ◌+◌, ◌≤◌, ◌<◌, length};
+ghost use Rattle.std.specs.Prelude.{◌≡◌, ℕ, ◌+◌, ◌≤◌, ◌<◌, length, ltb};
+ghost use Rattle.std.specs.List.{list_any};
 ghost use Rattle.answers.specs.Writing.{symbol_large, write_verdict, write_bytes_verdict, write_address_verdict};
 ghost use Rattle.encode.specs.Sizes.{size_verdict};
 
-use answers::{Verdict, Written};
 use checksum::{CHECKSUM_LENGTH, CODE_LENGTH};
-use numbers::{ADDRESS_LONG, ROOM_SMALL, STRING_LONG, SYMBOL_LARGE};
+use numbers::Refusal;
 use segwit::MAX_STRING_LENGTH;
 
 // Prefix, 18, 7, 17. The constant does not matter: the two checksums are equally long.
-pub(crate) fn symbols_verdict(prefix: &[u8], symbols: &[u8], room: usize) -> Written
+#[tactic(auto, using(crate::proofs::Orders::symbols_order, crate::proofs::Orders::prefix_short, crate::proofs::Large::large_listed))]
+pub(crate) fn symbols_verdict(prefix: &[u8], symbols: &[u8], room: usize) -> Result<usize, Refusal>
     ensures { (constant : ℕ) → result ≡ write_verdict constant prefix.now symbols.now room }
 {
-    let checked = hrp::check(prefix);
-    if let Verdict::Refused(number) = checked {
-        return Written::Refused(number);
-    }
+    hrp::check(prefix)?;
     if has_large(symbols) {
-        return Written::Refused(SYMBOL_LARGE);
+        return Err(Refusal::SymbolLarge);
     }
-    size_verdict(prefix.len(), symbols.len(), CODE_LENGTH, STRING_LONG, room)
+    size_verdict(
+        prefix.len(),
+        symbols.len(),
+        CODE_LENGTH,
+        Refusal::StringLong,
+        room,
+    )
 }
 
 // The same for the symbols of bytes, none of which is over 31.
-pub(crate) fn bytes_verdict(prefix: &[u8], bytes: &[u8], room: usize) -> Written
+#[tactic(auto, using(crate::proofs::Orders::bytes_order, crate::proofs::Orders::prefix_short))]
+pub(crate) fn bytes_verdict(prefix: &[u8], bytes: &[u8], room: usize) -> Result<usize, Refusal>
     ensures { (constant : ℕ) → result ≡ write_bytes_verdict constant prefix.now bytes.now room }
 {
-    let checked = hrp::check(prefix);
-    if let Verdict::Refused(number) = checked {
-        return Written::Refused(number);
-    }
+    hrp::check(prefix)?;
     size_verdict(
         prefix.len(),
         iter::symbols_for_bytes(bytes),
         CODE_LENGTH,
-        STRING_LONG,
+        Refusal::StringLong,
         room,
     )
 }
 
 // Prefix, 12, 15, 16, 10, 17.
-pub(crate) fn address_verdict(prefix: &[u8], version: u8, program: &[u8], room: usize) -> Written
+#[tactic(auto, using(crate::proofs::Orders::address_order, crate::proofs::Orders::prefix_short, iter::proofs::Lengths::symbols_length))]
+pub(crate) fn address_verdict(
+    prefix: &[u8],
+    version: u8,
+    program: &[u8],
+    room: usize,
+) -> Result<usize, Refusal>
     ensures { result ≡ write_address_verdict prefix.now version program.now room }
 {
-    let checked = hrp::check(prefix);
-    if let Verdict::Refused(number) = checked {
-        return Written::Refused(number);
-    }
-    let known = segwit::check_version(version);
-    if let Verdict::Refused(number) = known {
-        return Written::Refused(number);
-    }
-    let sized = segwit::check_program_length(version, program.len());
-    if let Verdict::Refused(number) = sized {
-        return Written::Refused(number);
-    }
+    hrp::check(prefix)?;
+    segwit::check_version(version)?;
+    segwit::check_program_length(version, program.len())?;
     size_verdict(
         prefix.len(),
         1 + iter::symbols_for_bytes(program),
         MAX_STRING_LENGTH,
-        ADDRESS_LONG,
+        Refusal::AddressLong,
         room,
     )
 }
 
 fn has_large(symbols: &[u8]) -> bool
-    ensures { result ≡ symbol_large symbols.now }
+    ensures { result ≡ list_any (λ v. ltb 31 v) symbols.now }
 {
-    let mut i = 0;
-    while i < symbols.len() {
-        if 31 < symbols[i] {
-            return true;
-        }
-        i += 1;
-    }
-    false
+    symbols.iter().any(|&symbol| 31 < symbol)
 }
 
 // The length of the whole: prefix, separator, symbols, checksum. The limit is compared without a sum, which could overflow.
-fn size_verdict(prefix: usize, symbols: usize, limit: usize, number: u8, room: usize) -> Written
+#[tactic(auto, unfolding(crate::specs::Sizes::size_verdict))]
+fn size_verdict(
+    prefix: usize,
+    symbols: usize,
+    limit: usize,
+    too_long: Refusal,
+    room: usize,
+) -> Result<usize, Refusal>
     requires { (prefix ≤ 83) × (90 ≤ limit) }
-    ensures { result ≡ size_verdict limit number room (prefix + 7 + symbols) }
+    ensures { result ≡ size_verdict limit too_long room (prefix + 7 + symbols) }
 {
     let around = prefix + 1 + CHECKSUM_LENGTH;
     if limit - around < symbols {
-        return Written::Refused(number);
+        return Err(too_long);
     }
     let length = around + symbols;
     if room < length {
-        return Written::Refused(ROOM_SMALL);
+        return Err(Refusal::RoomSmall);
     }
-    Written::Accepted(length)
+    Ok(length)
 }

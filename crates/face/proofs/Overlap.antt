@@ -2,11 +2,11 @@
 use mathlib.Core.Path.{◌≡◌, refl, sym, ◌∙◌}
 use mathlib.Core.Logic.{◌↔◌, ◌⊎◌, ⊎_elim, inl, inr}
 use mathlib.Core.Bool.{Bool, true, false}
-use Prim.Native.Nat.{ℕ, ◌+◌, ◌-◌, ◌≤◌, ◌<◌}
+use Prim.Native.Nat.{ℕ, ◌+◌, ◌≤◌, ◌<◌}
 use native.Mathlib.Decide.{ℕ_discrete}
 use native.Mathlib.Omega.{arith}
 use lib.Dec.{leb, ltb}
-use borrow.Author.Tests.{eq-eqb, ne_eqb, lt-ltb, le-ltb, le-leb, lt-leb, ltb-true, ltb-false, leb-true, leb-false}
+use borrow.Author.Tests.{eq-eqb, ne_eqb, le-leb, lt-leb, ltb-true, ltb-false, leb-true, leb-false}
 use Rattle.face.specs.Overlap.{LiesIn, top, Meeting, overlap_number}
 use Rattle.face.specs.Promises.{OverlapTold}
 
@@ -45,14 +45,6 @@ module _ (a m b n : ℕ) (w : Memory a m b n) where
   pub meet : b < a + m → a < b + n → OverlapTold a m b n 37
   unfolding overlap_number
   meet h k = record { number = rw (ne_eqb m 0 w.0, ne_eqb n 0 w.1, w.2, w.3, lt-leb (a + m) b h, lt-leb (b + n) a k) }
-
--- past the top, by differences that are numbers of a usize
-pub past_by_differences : (a m : ℕ) → (m ≡ 0 → ⊥) → a < top → ltb (18446744073709551615 - a) (m - 1) ≡ ltb top (a + m)
-past_by_differences a m some below = by (ltb top (a + m)) refl
-  where
-    by : (t : Bool) → ltb top (a + m) ≡ t → ltb (18446744073709551615 - a) (m - 1) ≡ t
-    by true e = lt-ltb (18446744073709551615 - a) (m - 1) (omega (arith, ltb-true top (a + m) e))
-    by false e = le-ltb (18446744073709551615 - a) (m - 1) (omega (arith, ltb-false top (a + m) e))
 
 -- ---- what the numbers mean
 

@@ -1,17 +1,17 @@
 -- Wrong answers that the promises rule out, each one that a slip in the code would give.
 use mathlib.Core.Path.{◌≡◌, ap, sym}
 use mathlib.Core.Bool.{true, false, false≢true}
-use mathlib.Core.List.{List, [], ◌∷◌}
+use mathlib.Core.List.{[], ◌∷◌}
 use Prim.Native.Nat.{ℕ}
 use native.Mathlib.Omega.{arith}
-use lib.ListN.{length, get_or, replicate}
-use denote.Ref.{Bor}
+use lib.ListN.{get_or, length, replicate}
 use Rattle.std.specs.Prelude.{Result, Ok, Err}
 use Rattle.std.specs.Result.{result_unwrap_or}
 use Rattle.laws.specs.Xor.{◌⊕◌}
 use Rattle.gf32.specs.Field.{products, times_a, sum as sum32, product as product32}
 use Rattle.gf32_ext.specs.Field.{product, power}
 use Rattle.numbers.specs.declared.Refusal.{Refusal}
+use Rattle.numbers.proofs.Numbers.{ok_injective}
 use Rattle.numbers.specs.declared.Refusal.TheVariants.{ListFull, ListPlace}
 use Rattle.fieldvec.specs.declared.FieldVec.{FieldVec}
 use Rattle.fieldvec.specs.Lists.{listed, shown, pushed, popped_back, popped_front, got, pointwise, multiplied_pointwise, reversed, alike, compared, lifted, powers_given}
@@ -24,23 +24,22 @@ empty_not_counted p = let e : ◌≡◌ {A = ℕ} 1 0 = ap (λ (r : FieldVec). r
 pub empty_not_ones : Emptied (record { items = replicate 7 1; len = 0 }) → ⊥
 empty_not_ones p = let e : ◌≡◌ {A = ℕ} 1 0 = ap (λ (r : FieldVec). get_or r.items 0 0) p in omega arith
 
--- more places shown than are counted, a place that is not the list's, a list shown that counts more than there is room for, and a full list
--- refused
-pub not_every_place : (place : ℕ × ℕ) → Shown place (listed (1 ∷ [])) (Ok (record { ref_ptr = place; now = 1 ∷ 0 ∷ [] })) → ⊥
+-- numbers that lie elsewhere, more places shown than are counted, a list shown that counts more than there is room for, and a full list refused
+pub not_elsewhere : Shown (listed (1 ∷ [])) (0, 0) (Ok (record { ref_ptr = (0, 8); now = 1 ∷ [] })) → ⊥
 unfolding shown
-not_every_place place p = let e : ◌≡◌ {A = ℕ} 2 1 = ap (λ (r : Result (Bor (List ℕ)) Refusal). length (result_unwrap_or r (record { ref_ptr = place; now = [] })).now) p.is in omega arith
+not_elsewhere p = let e : ◌≡◌ {A = ℕ} 8 0 = ap (λ s. s.ref_ptr.1) (ok_injective _ _ p) in omega arith
 
-pub not_elsewhere : Shown (1, 8) (listed (1 ∷ [])) (Ok (record { ref_ptr = (1, 9); now = 1 ∷ [] })) → ⊥
+pub not_every_place : (place at : ℕ × ℕ) → Shown (listed (1 ∷ [])) place (Ok (record { ref_ptr = at; now = 1 ∷ 0 ∷ [] })) → ⊥
 unfolding shown
-not_elsewhere p = let e : ◌≡◌ {A = ℕ} 9 8 = ap (λ (r : Result (Bor (List ℕ)) Refusal). (result_unwrap_or r (record { ref_ptr = (0, 0); now = [] })).ref_ptr.1) p.is in omega arith
+not_every_place place at p = let e : ◌≡◌ {A = ℕ} 2 1 = ap (λ s. length s.now) (ok_injective _ _ p) in omega arith
 
-pub not_over_capacity : (place : ℕ × ℕ) → Shown place (record { items = replicate 7 0; len = 8 }) (Ok (record { ref_ptr = place; now = replicate 7 0 })) → ⊥
+pub not_over_capacity : (place at : ℕ × ℕ) → Shown (record { items = replicate 7 0; len = 8 }) place (Ok (record { ref_ptr = at; now = replicate 7 0 })) → ⊥
 unfolding shown
-not_over_capacity place p = cc (p.is)
+not_over_capacity place at p = cc
 
-pub full_not_refused : (place : ℕ × ℕ) → Shown place (listed (1 ∷ 2 ∷ 3 ∷ 4 ∷ 5 ∷ 6 ∷ 7 ∷ [])) (Err ListPlace) → ⊥
+pub full_not_refused : (place : ℕ × ℕ) → Shown (listed (1 ∷ 2 ∷ 3 ∷ 4 ∷ 5 ∷ 6 ∷ 7 ∷ [])) place (Err ListPlace) → ⊥
 unfolding shown
-full_not_refused place p = cc (p.is)
+full_not_refused place p = cc
 
 -- an element stored by nine of its ten bits
 pub push_not_narrower : Pushed (listed []) 1023 (Ok tt) (listed (511 ∷ [])) → ⊥

@@ -24,32 +24,36 @@ use Rattle.numbers.specs.declared.Refusal.TheVariants.{ListPlace}
 use Rattle.gf32_ext.specs.Field.{power}
 use Rattle.fieldvec.specs.declared.FieldVec.{FieldVec}
 use Rattle.fieldvec.specs.Lists.{elements, listed, given, left, shown, pushed, popped_back, popped_front, got, reversed, compared, alike, pointwise, multiplied_pointwise, powers_given}
-use Rattle.fieldvec.specs.Promises.{Changes, Shown}
+use Rattle.fieldvec.specs.Promises.{Changes}
+use Rattle.numbers.proofs.Numbers.{ok_injective}
 
 -- ---- the list that is shown, or refused
 
 module _ (t : FieldVec) where
-  pub shown_ok : {place : ℕ × ℕ} {l : Bor (List ℕ)} → Shown place t (Ok l) → (t.len ≤ 7) × (l.now ≡ elements t)
+  pub shown_ok : (place : ℕ × ℕ) {s : Bor (List ℕ)} → Ok s ≡ shown t place → (t.len ≤ 7) × (s.now ≡ elements t)
   unfolding shown
-  shown_ok {place} {l} shows = by (ltb 7 t.len) refl shows.is
+  shown_ok place {s} e = by (ltb 7 t.len) refl e
     where
-      by : (b : Bool) → ltb 7 t.len ≡ b → Ok l ≡ pick b (Err ListPlace) (Ok (record { ref_ptr = place; now = elements t })) → (t.len ≤ 7) × (l.now ≡ elements t)
+      by : (b : Bool) → ltb 7 t.len ≡ b → Ok s ≡ pick {A = Result (Bor (List ℕ)) Refusal} b (Err ListPlace) (Ok (record { ref_ptr = place; now = elements t }))
+          → (t.len ≤ 7) × (s.now ≡ elements t)
       by true s e = cc
-      by false s e = (ltb-false 7 t.len s, cc)
+      by false s e = (ltb-false 7 t.len s, ap (λ r. r.now) (ok_injective _ _ e))
 
-  pub shown_err : {place : ℕ × ℕ} {refusal : Refusal} → Shown place t (Err refusal) → (7 < t.len) × (refusal ≡ ListPlace)
+  pub shown_err : (place : ℕ × ℕ) {refusal : Refusal} → Err refusal ≡ shown t place → (7 < t.len) × (refusal ≡ ListPlace)
   unfolding shown
-  shown_err {place} {refusal} shows = by (ltb 7 t.len) refl shows.is
+  shown_err place {refusal} e = by (ltb 7 t.len) refl e
     where
-      by : (b : Bool) → ltb 7 t.len ≡ b → ◌≡◌ {A = Result (Bor (List ℕ)) Refusal} (Err refusal) (pick b (Err ListPlace) (Ok (record { ref_ptr = place; now = elements t })))
+      by : (b : Bool) → ltb 7 t.len ≡ b
+          → Err refusal ≡ pick {A = Result (Bor (List ℕ)) Refusal} b (Err ListPlace) (Ok (record { ref_ptr = place; now = elements t }))
           → (7 < t.len) × (refusal ≡ ListPlace)
       by true s e = (ltb-true 7 t.len s, cc)
       by false s e = cc
 
   -- what the exit of a `?` on the elements returns
-  pub exit : {A : Type 0} (r : Result A Refusal) {refusal : Refusal} {place : ℕ × ℕ} → IsErrAnd r (λ y. y ≡ refusal) → Shown place t (Err refusal)
+  pub exit : {A : Type 0} (place : ℕ × ℕ) (r : Result A Refusal) {refusal : Refusal} → IsErrAnd r (λ y. y ≡ refusal) → Err refusal ≡ shown t place
       → (7 < t.len) × (r ≡ Err ListPlace)
-  exit r returned shows = let p = err_from_is_err_and r returned in ((shown_err shows).0, p.1 ∙ ap Err (p.2 ∙ (shown_err shows).1))
+  exit place r returned e =
+      let p = err_from_is_err_and r returned in ((shown_err place e).0, p.1 ∙ ap Err (p.2 ∙ (shown_err place e).1))
 
   module _ {A : Type 0} {answer : Result (A × FieldVec) Refusal} where
     -- a refusal leaves the list as it was

@@ -44,9 +44,9 @@ left t (Err refusal) = t
 
 -- ---- the answers
 
--- the list itself, as it lies at the place where the FieldVec does
-unfoldable pub shown : ℕ × ℕ → FieldVec → Result (Bor (List ℕ)) Refusal
-shown place t = pick (ltb capacity t.len) (Err ListPlace) (Ok (record { ref_ptr = place; now = elements t }))
+-- the list itself
+unfoldable pub shown : FieldVec → ℕ × ℕ → Result (Bor (List ℕ)) Refusal
+shown t place = pick (ltb capacity t.len) (Err ListPlace) (Ok (record { ref_ptr = place; now = elements t }))
 
 -- the element after those in the list
 unfoldable pub pushed : FieldVec → ℕ → Result (⊤ × FieldVec) Refusal

@@ -1,6 +1,7 @@
 -- What each public function promises, and that two answers which keep the promise are equal; for one that changes a list, the lists that it
 -- leaves too.
 use Rattle.std.specs.Prelude.{◌≡◌, Bool, ⊤, Result, List, [], ℕ, ◌%◌}
+use Rattle.std.specs.Result.{result_map_both}
 use denote.Ref.{Bor}
 use Rattle.laws.proofs.Bools.{same}
 use Rattle.numbers.specs.declared.Refusal.{Refusal}
@@ -24,12 +25,12 @@ Emptied r = r ≡ listed []
 pub emptied_once : (r s : FieldVec) → Emptied r → Emptied s → r ≡ s
 emptied_once r s p q = same p q
 
--- fieldvec::FieldVec::elements
-pub record Shown (place : ℕ × ℕ) (t : FieldVec) (r : Result (Bor (List ℕ)) Refusal) : Type 0 where
-  pub is : r ≡ shown place t
+-- fieldvec::FieldVec::elements: the slice begins where the list lies
+abbrev pub Shown : FieldVec → ℕ × ℕ → Result (Bor (List ℕ)) Refusal → Type 0
+Shown t place r = r ≡ shown t place
 
-pub shown_once : (place : ℕ × ℕ) (t : FieldVec) (r s : Result (Bor (List ℕ)) Refusal) → Shown place t r → Shown place t s → r ≡ s
-shown_once place t r s p q = same p.is q.is
+pub shown_once : (t : FieldVec) (place : ℕ × ℕ) (r s : Result (Bor (List ℕ)) Refusal) → Shown t place r → Shown t place s → r ≡ s
+shown_once t place r s p q = same p q
 
 -- fieldvec::FieldVec::push
 abbrev pub Pushed : FieldVec → ℕ → Result ⊤ Refusal → FieldVec → Type 0

@@ -33,10 +33,10 @@ impl FieldVec {
         }
     }
 
-    // The stored numbers.
+    // The stored numbers, where they lie.
     #[tactic(auto, unfolding(crate::specs::Lists::shown))]
     pub fn elements(&self) -> Result<&[u16], Refusal>
-        ensures { Shown self.entry.ref_ptr self.now result }
+        ensures { Shown self.now self.entry.ref_ptr result }
     {
         if CAPACITY < self.len {
             return Err(Refusal::ListPlace);

@@ -1,63 +1,66 @@
 -- Wrong answers that the promises rule out, each on a concrete input.
-use mathlib.Core.Path.{◌≡◌, ap}
+use mathlib.Core.Path.{◌≡◌, ap, sym}
+use Rattle.numbers.proofs.Numbers.{err_apart}
 use mathlib.Core.Bool.{true, false}
 use mathlib.Core.List.{List, [], ◌∷◌}
 use Prim.Native.Nat.{ℕ}
 use native.Mathlib.Omega.{arith}
 use lib.ListN.{get_or, replicate}
 use Rattle.laws.specs.Text.{bytes}
-use Rattle.answers.specs.Numbers.{number_of_verdict, number_of_written, count_of_written}
+use Rattle.numbers.specs.Numbers.{number_in}
+use Rattle.answers.specs.Numbers.{count_in}
 use Rattle.answers.specs.Rules.{offence, prefix_verdict}
 use Rattle.answers.specs.Reading.{room_small, written_into}
-use Rattle.answers.specs.declared.Verdict.TheVariants as verdict
-use Rattle.answers.specs.declared.Written.TheVariants as written
 use Rattle.hrp.specs.Compare.{same_case_aside, order_case_aside}
 use Rattle.hrp.specs.Networks.{network_of, segwit_prefix}
 use Rattle.hrp.specs.Numbers.{value_of_network, value_of_order}
 use Rattle.hrp.specs.Promises.{Checked, Folded, Compared, Matched, NetworkFound, SegwitPrefixAsked}
-use Rattle.hrp.specs.declared.Network.TheVariants.{Mainnet, Testnet, Unknown}
-use Rattle.hrp.specs.declared.Order.TheVariants.{Less, Equal, Greater}
+use Rattle.hrp.specs.declared.Network.TheVariants.{Mainnet, Testnet}
+use Rattle.std.specs.Prelude.{Some, None}
+use Rattle.std.specs.declared.cmp.Ordering.TheVariants.{Less, Equal, Greater}
+use Rattle.numbers.specs.declared.Refusal.TheVariants.{MixedCase, PrefixLong, PrefixByte, RoomSmall}
+use Rattle.std.specs.Prelude.{Ok, Err}
 
 -- ---- hrp::check
 
 -- 83 bytes refused, 84 accepted
-pub not_83_refused : Checked (replicate 83 97) (verdict.Refused 5) → ⊥
+pub not_83_refused : Checked (replicate 83 97) (Err PrefixLong) → ⊥
 unfolding prefix_verdict offence
-not_83_refused p = let e : ◌≡◌ {A = ℕ} 5 0 = ap number_of_verdict p in omega arith
+not_83_refused p = err_apart tt PrefixLong p
 
-pub not_84_accepted : Checked (replicate 84 97) verdict.Accepted → ⊥
+pub not_84_accepted : Checked (replicate 84 97) (Ok tt) → ⊥
 unfolding prefix_verdict offence
-not_84_accepted p = let e : ◌≡◌ {A = ℕ} 0 5 = ap number_of_verdict p in omega arith
+not_84_accepted p = err_apart tt PrefixLong (sym p)
 
 -- a byte outside 33 to 126 refused as mixed case, two small letters taken for mixed case
-pub not_a_byte_as_case : Checked (bytes "a b") (verdict.Refused 2) → ⊥
+pub not_a_byte_as_case : Checked (bytes "a b") (Err MixedCase) → ⊥
 unfolding prefix_verdict offence
-not_a_byte_as_case p = let e : ◌≡◌ {A = ℕ} 2 6 = ap number_of_verdict p in omega arith
+not_a_byte_as_case p = let e : ◌≡◌ {A = ℕ} 2 6 = ap number_in p in omega arith
 
-pub not_one_case_mixed : Checked (bytes "ab") (verdict.Refused 2) → ⊥
+pub not_one_case_mixed : Checked (bytes "ab") (Err MixedCase) → ⊥
 unfolding prefix_verdict offence
-not_one_case_mixed p = let e : ◌≡◌ {A = ℕ} 2 0 = ap number_of_verdict p in omega arith
+not_one_case_mixed p = err_apart tt MixedCase p
 
 -- another byte than the first that offends
-pub not_a_later_byte : Checked (bytes "aB ") (verdict.Refused 6) → ⊥
+pub not_a_later_byte : Checked (bytes "aB ") (Err PrefixByte) → ⊥
 unfolding prefix_verdict offence
-not_a_later_byte p = let e : ◌≡◌ {A = ℕ} 6 2 = ap number_of_verdict p in omega arith
+not_a_later_byte p = let e : ◌≡◌ {A = ℕ} 6 2 = ap number_in p in omega arith
 
-pub not_a_later_letter : Checked (bytes " aB") (verdict.Refused 2) → ⊥
+pub not_a_later_letter : Checked (bytes " aB") (Err MixedCase) → ⊥
 unfolding prefix_verdict offence
-not_a_later_letter p = let e : ◌≡◌ {A = ℕ} 2 6 = ap number_of_verdict p in omega arith
+not_a_later_letter p = let e : ◌≡◌ {A = ℕ} 2 6 = ap number_in p in omega arith
 
 -- ---- hrp::to_lower: 17 where the room is just enough, the room as what was written, capitals kept
 
-pub not_just_enough_refused : Folded (bytes "BC") (9 ∷ 9 ∷ []) (written.Refused 17) (9 ∷ 9 ∷ []) → ⊥
+pub not_just_enough_refused : Folded (bytes "BC") (9 ∷ 9 ∷ []) (Err RoomSmall) (9 ∷ 9 ∷ []) → ⊥
 unfolding written_into room_small
-not_just_enough_refused p = let e : ◌≡◌ {A = ℕ} 17 0 = ap number_of_written p.answer in omega arith
+not_just_enough_refused p = err_apart 2 RoomSmall p.answer
 
-pub not_the_room_as_count : (after : List ℕ) → Folded (bytes "BC") (9 ∷ 9 ∷ 9 ∷ []) (written.Accepted 3) after → ⊥
+pub not_the_room_as_count : (after : List ℕ) → Folded (bytes "BC") (9 ∷ 9 ∷ 9 ∷ []) (Ok 3) after → ⊥
 unfolding written_into room_small
-not_the_room_as_count after p = let e : ◌≡◌ {A = ℕ} 3 2 = ap count_of_written p.answer in omega arith
+not_the_room_as_count after p = let e : ◌≡◌ {A = ℕ} 3 2 = ap count_in p.answer in omega arith
 
-pub not_capitals : Folded (bytes "BC") (9 ∷ 9 ∷ []) (written.Accepted 2) (bytes "BC") → ⊥
+pub not_capitals : Folded (bytes "BC") (9 ∷ 9 ∷ []) (Ok 2) (bytes "BC") → ⊥
 unfolding written_into room_small
 not_capitals p = let e : ◌≡◌ {A = ℕ} 66 98 = ap (λ (l : List ℕ). get_or l 0 0) p.buffer in omega arith
 
@@ -91,15 +94,15 @@ not_never_the_same p = let e : false ≡ true = p in let z : ◌≡◌ {A = ℕ}
 
 -- ---- hrp::network_of: another text for the main network, bcrt taken for a test network, all unknown
 
-pub not_bd : NetworkFound (bytes "bd") Mainnet → ⊥
+pub not_bd : NetworkFound (bytes "bd") (Some Mainnet) → ⊥
 unfolding network_of same_case_aside
 not_bd p = let e : ◌≡◌ {A = ℕ} 1 0 = ap value_of_network p in omega arith
 
-pub not_regtest_as_testnet : NetworkFound (bytes "bcrt") Testnet → ⊥
+pub not_regtest_as_testnet : NetworkFound (bytes "bcrt") (Some Testnet) → ⊥
 unfolding network_of same_case_aside
 not_regtest_as_testnet p = let e : ◌≡◌ {A = ℕ} 2 3 = ap value_of_network p in omega arith
 
-pub not_always_unknown : NetworkFound (bytes "TB") Unknown → ⊥
+pub not_always_unknown : NetworkFound (bytes "TB") None → ⊥
 unfolding network_of same_case_aside
 not_always_unknown p = let e : ◌≡◌ {A = ℕ} 0 2 = ap value_of_network p in omega arith
 

@@ -6,20 +6,19 @@ use borrow.Author.Tests.{lt-ltb, le-ltb, le-leb, lt-leb}
 use native.Mathlib.Omega.{arith}
 use lib.ListN.{length, get_or, drop, set}
 use Rattle.laws.proofs.Front.{front, front_more, front_all}
-use Rattle.paper.specs.Bits.{to_bytes, to_symbols}
-use Rattle.answers.specs.declared.Written.TheVariants.{Accepted, Refused}
 use Rattle.iter.specs.Writing.{Wrote}
 use Rattle.answers.specs.Reading.{room_small, written_into}
-use Rattle.iter.specs.Steps.{symbol_step, byte_step}
-use Rattle.iter.specs.declared.SymbolStep.TheVariants as symbol
-use Rattle.iter.specs.declared.ByteStep.TheVariants as byte
+use Rattle.iter.specs.Steps.{place_after}
+use Rattle.numbers.specs.declared.Refusal.TheVariants.{RoomSmall}
+use Rattle.std.specs.Prelude.{Ok, Err, Some, None, slice_get}
+use Rattle.std.proofs.lemmas.Option.{slice_get_past, slice_get-get_or}
 
 module _ (list before : List ℕ) (count : ℕ) (all : count ≡ length list) where
-  pub no_room : length before < count → Wrote list before (Refused 17) before
+  pub no_room : length before < count → Wrote list before (Err RoomSmall) before
   unfolding written_into room_small
   no_room h = record { answer = rw (← all, lt-ltb (length before) count h); buffer = rw (← all, lt-ltb (length before) count h) }
 
-  pub room : count ≤ length before → (after : List ℕ) → after ≡ list ++ drop count before → Wrote list before (Accepted count) after
+  pub room : count ≤ length before → (after : List ℕ) → after ≡ list ++ drop count before → Wrote list before (Ok count) after
   unfolding written_into room_small
   room h after e = record { answer = rw (← all, le-ltb (length before) count h); buffer = rw (← all, le-ltb (length before) count h) e }
 
@@ -32,20 +31,10 @@ module _ (list before : List ℕ) (at count : ℕ) (all : count ≡ length list)
   pub put_all : count ≤ at → at ≤ count → (out : List ℕ) → out ≡ front list before at → out ≡ list ++ drop count before
   put_all h k out e = e ∙ front_all list before at (omega (arith, all)) ∙ ap (λ (n : ℕ). list ++ drop n before) (sym all)
 
-module _ (bytes : List ℕ) (at count : ℕ) (all : count ≡ length (to_symbols bytes)) where
-  pub no_symbol : count ≤ at → symbol.End ≡ symbol_step bytes at
-  unfolding symbol_step
-  no_symbol h = rw (← all, le-leb count at h)
+-- a step of a walk over a list, past its end and before it
+module _ (list : List ℕ) (at count : ℕ) (all : count ≡ length list) where
+  pub at_end : count ≤ at → (None ≡ slice_get list at) × (at ≡ place_after list at)
+  at_end h = (sym (slice_get_past list at (omega (arith, all))), rw (← all, le-leb count at h))
 
-  pub a_symbol : at < count → (v : ℕ) → v ≡ get_or (to_symbols bytes) at 0 → symbol.Symbol v (record { at = at + 1 }) ≡ symbol_step bytes at
-  unfolding symbol_step
-  a_symbol h v e = rw (← all, lt-leb count at h, e)
-
-module _ (symbols : List ℕ) (at count : ℕ) (all : count ≡ length (to_bytes symbols)) where
-  pub no_byte : count ≤ at → byte.End ≡ byte_step symbols at
-  unfolding byte_step
-  no_byte h = rw (← all, le-leb count at h)
-
-  pub a_byte : at < count → (v : ℕ) → v ≡ get_or (to_bytes symbols) at 0 → byte.Byte v (record { at = at + 1 }) ≡ byte_step symbols at
-  unfolding byte_step
-  a_byte h v e = rw (← all, lt-leb count at h, e)
+  pub at_value : at < count → (v : ℕ) → v ≡ get_or list at 0 → (Some v ≡ slice_get list at) × (at + 1 ≡ place_after list at)
+  at_value h v e = (ap Some e ∙ sym (slice_get-get_or list at 0 (omega (arith, all))), rw (← all, lt-leb count at h))

@@ -1,5 +1,5 @@
 -- Wrong answers that the promises rule out, each on a concrete input: what a body gives that counts, cuts, starts or stops in the wrong place.
-use mathlib.Core.Path.{◌≡◌, ap}
+use mathlib.Core.Path.{◌≡◌, sym, ap}
 use mathlib.Core.List.{List, [], ◌∷◌}
 use Prim.Native.Nat.{ℕ}
 use native.Mathlib.Omega.{arith}
@@ -9,15 +9,14 @@ use Rattle.paper.specs.Charset.{charset, symbol}
 use Rattle.paper.specs.Bits.{bits_of, bits, spelled, groups, whole, leftover, to_bytes, padding, to_symbols}
 use Rattle.answers.specs.Rules.{padding_long, padding_not_zero, padding_verdict}
 use Rattle.answers.specs.Reading.{room_small, written_into}
-use Rattle.answers.specs.declared.Verdict.TheVariants as verdict
-use Rattle.answers.specs.declared.Written.TheVariants as written
-use Rattle.iter.specs.Steps.{symbol_step, byte_step}
-use Rattle.iter.specs.Numbers.{given_of_symbol_step, symbol_of_symbol_step, place_of_symbol_step, given_of_byte_step, byte_of_byte_step, place_of_byte_step}
+use Rattle.iter.specs.Steps.{symbols_walk, bytes_walk, symbol_step, after_symbol, byte_step, after_byte}
+use Rattle.iter.specs.Numbers.{given_of_step, value_of_step}
 use Rattle.iter.specs.Promises.{SymbolsCounted, BytesCounted, SymbolsWritten, BytesWritten, CharactersWritten, PaddingJudged, CharactersJudged, SymbolsBegun, SymbolGiven, BytesBegun, ByteGiven}
 use Rattle.iter.specs.declared.BytesToSymbols.{BytesToSymbols}
 use Rattle.iter.specs.declared.SymbolsToBytes.{SymbolsToBytes}
-use Rattle.iter.specs.declared.SymbolStep.TheVariants as step
-use Rattle.iter.specs.declared.ByteStep.TheVariants as byte
+use Rattle.numbers.specs.declared.Refusal.TheVariants.{PaddingLong, PaddingNotZero, RoomSmall}
+use Rattle.numbers.proofs.Numbers.{err_apart, ok_injective}
+use Rattle.std.specs.Prelude.{Ok, Err, Some, None}
 
 -- ---- the counts
 
@@ -42,126 +41,139 @@ bytes_not_counted_fours p = let e : ◌≡◌ {A = ℕ} 4 5 = p in omega arith
 -- ---- the three that write
 
 -- 17 where the room is just enough, and the count of what was read
-pub symbols_not_refused : SymbolsWritten (255 ∷ []) (9 ∷ 9 ∷ []) (written.Refused 17) (9 ∷ 9 ∷ []) → ⊥
+pub symbols_not_refused : SymbolsWritten (255 ∷ []) (9 ∷ 9 ∷ []) (Err RoomSmall) (9 ∷ 9 ∷ []) → ⊥
 unfolding written_into room_small to_symbols whole groups spelled bits bits_of
-symbols_not_refused p = let e : written.Refused 17 ≡ written.Accepted 2 = p.answer in let z : ◌≡◌ {A = ℕ} 0 1 = cc in omega arith
+symbols_not_refused p = err_apart 2 RoomSmall p.answer
 
-pub symbols_not_counted_as_bytes : (after : List ℕ) → SymbolsWritten (255 ∷ []) (9 ∷ 9 ∷ []) (written.Accepted 1) after → ⊥
+pub symbols_not_counted_as_bytes : (after : List ℕ) → SymbolsWritten (255 ∷ []) (9 ∷ 9 ∷ []) (Ok 1) after → ⊥
 unfolding written_into room_small to_symbols whole groups spelled bits bits_of
-symbols_not_counted_as_bytes after p = let e : written.Accepted 1 ≡ written.Accepted 2 = p.answer in let z : ◌≡◌ {A = ℕ} 1 2 = cc in omega arith
+symbols_not_counted_as_bytes after p = let e : ◌≡◌ {A = ℕ} 1 2 = ok_injective 1 2 p.answer in omega arith
 
 -- symbols read one bit late, and what stands past them overwritten
-pub symbols_not_late : SymbolsWritten (255 ∷ []) (9 ∷ 9 ∷ []) (written.Accepted 2) (31 ∷ 24 ∷ []) → ⊥
+pub symbols_not_late : SymbolsWritten (255 ∷ []) (9 ∷ 9 ∷ []) (Ok 2) (31 ∷ 24 ∷ []) → ⊥
 unfolding written_into room_small to_symbols whole groups spelled bits bits_of
 symbols_not_late p = let e : ◌≡◌ {A = ℕ} 24 28 = ap (λ (l : List ℕ). get_or l 1 0) p.buffer in omega arith
 
-pub symbols_not_past_the_end : SymbolsWritten (255 ∷ []) (9 ∷ 9 ∷ 9 ∷ []) (written.Accepted 2) (31 ∷ 28 ∷ 0 ∷ []) → ⊥
+pub symbols_not_past_the_end : SymbolsWritten (255 ∷ []) (9 ∷ 9 ∷ 9 ∷ []) (Ok 2) (31 ∷ 28 ∷ 0 ∷ []) → ⊥
 unfolding written_into room_small to_symbols whole groups spelled bits bits_of
 symbols_not_past_the_end p = let e : ◌≡◌ {A = ℕ} 0 9 = ap (λ (l : List ℕ). get_or l 2 0) p.buffer in omega arith
 
 -- of symbols: 17 where the room is just enough, the count of what was read, and bits of the second symbol where those of the third belong
-pub bytes_not_refused : BytesWritten (31 ∷ 28 ∷ []) (9 ∷ []) (written.Refused 17) (9 ∷ []) → ⊥
+pub bytes_not_refused : BytesWritten (31 ∷ 28 ∷ []) (9 ∷ []) (Err RoomSmall) (9 ∷ []) → ⊥
 unfolding written_into room_small to_bytes whole groups spelled bits bits_of
-bytes_not_refused p = let e : written.Refused 17 ≡ written.Accepted 1 = p.answer in let z : ◌≡◌ {A = ℕ} 0 1 = cc in omega arith
+bytes_not_refused p = err_apart 1 RoomSmall p.answer
 
-pub bytes_not_counted_as_symbols : (after : List ℕ) → BytesWritten (31 ∷ 28 ∷ []) (9 ∷ 9 ∷ []) (written.Accepted 2) after → ⊥
+pub bytes_not_counted_as_symbols : (after : List ℕ) → BytesWritten (31 ∷ 28 ∷ []) (9 ∷ 9 ∷ []) (Ok 2) after → ⊥
 unfolding written_into room_small to_bytes whole groups spelled bits bits_of
-bytes_not_counted_as_symbols after p = let e : written.Accepted 2 ≡ written.Accepted 1 = p.answer in let z : ◌≡◌ {A = ℕ} 2 1 = cc in omega arith
+bytes_not_counted_as_symbols after p = let e : ◌≡◌ {A = ℕ} 2 1 = ok_injective 2 1 p.answer in omega arith
 
-pub third_symbol_not_lost : BytesWritten (31 ∷ 0 ∷ 31 ∷ 0 ∷ []) (9 ∷ 9 ∷ []) (written.Accepted 2) (248 ∷ 63 ∷ []) → ⊥
+pub third_symbol_not_lost : BytesWritten (31 ∷ 0 ∷ 31 ∷ 0 ∷ []) (9 ∷ 9 ∷ []) (Ok 2) (248 ∷ 63 ∷ []) → ⊥
 unfolding written_into room_small to_bytes whole groups spelled bits bits_of
 third_symbol_not_lost p = let e : ◌≡◌ {A = ℕ} 63 62 = ap (λ (l : List ℕ). get_or l 1 0) p.buffer in omega arith
 
 -- the same of characters, where q is 0 and l is 31
-pub characters_not_refused : CharactersWritten (bytes "lu") (9 ∷ []) (written.Refused 17) (9 ∷ []) → ⊥
+pub characters_not_refused : CharactersWritten (bytes "lu") (9 ∷ []) (Err RoomSmall) (9 ∷ []) → ⊥
 unfolding written_into room_small to_bytes whole groups spelled bits bits_of symbol charset
-characters_not_refused p = let e : written.Refused 17 ≡ written.Accepted 1 = p.answer in let z : ◌≡◌ {A = ℕ} 0 1 = cc in omega arith
+characters_not_refused p = err_apart 1 RoomSmall p.answer
 
-pub characters_not_counted_as_read : (after : List ℕ) → CharactersWritten (bytes "lu") (9 ∷ 9 ∷ []) (written.Accepted 2) after → ⊥
+pub characters_not_counted_as_read : (after : List ℕ) → CharactersWritten (bytes "lu") (9 ∷ 9 ∷ []) (Ok 2) after → ⊥
 unfolding written_into room_small to_bytes whole groups spelled bits bits_of symbol charset
-characters_not_counted_as_read after p = let e : written.Accepted 2 ≡ written.Accepted 1 = p.answer in let z : ◌≡◌ {A = ℕ} 2 1 = cc in omega arith
+characters_not_counted_as_read after p = let e : ◌≡◌ {A = ℕ} 2 1 = ok_injective 2 1 p.answer in omega arith
 
-pub third_character_not_lost : CharactersWritten (bytes "lqlq") (9 ∷ 9 ∷ []) (written.Accepted 2) (248 ∷ 63 ∷ []) → ⊥
+pub third_character_not_lost : CharactersWritten (bytes "lqlq") (9 ∷ 9 ∷ []) (Ok 2) (248 ∷ 63 ∷ []) → ⊥
 unfolding written_into room_small to_bytes whole groups spelled bits bits_of symbol charset
 third_character_not_lost p = let e : ◌≡◌ {A = ℕ} 63 62 = ap (λ (l : List ℕ). get_or l 1 0) p.buffer in omega arith
 
 -- and of characters in upper case taken as they are
-pub capitals_not_outside : CharactersWritten (bytes "LU") (9 ∷ []) (written.Accepted 1) (0 ∷ []) → ⊥
+pub capitals_not_outside : CharactersWritten (bytes "LU") (9 ∷ []) (Ok 1) (0 ∷ []) → ⊥
 unfolding written_into room_small to_bytes whole groups spelled bits bits_of symbol charset
 capitals_not_outside p = let e : ◌≡◌ {A = ℕ} 0 255 = ap (λ (l : List ℕ). get_or l 0 0) p.buffer in omega arith
 
 -- ---- the padding
 
 -- the first symbol judged for the last, 13 for four bits, and bits that are dropped unlooked
-pub not_the_first_symbol : PaddingJudged (3 ∷ 0 ∷ []) (verdict.Refused 14) → ⊥
+pub not_the_first_symbol : PaddingJudged (3 ∷ 0 ∷ []) (Err PaddingNotZero) → ⊥
 unfolding padding_verdict padding_long padding_not_zero padding leftover bits bits_of
-not_the_first_symbol p = let e : verdict.Refused 14 ≡ verdict.Accepted = p in let z : ◌≡◌ {A = ℕ} 0 1 = cc in omega arith
+not_the_first_symbol p = err_apart tt PaddingNotZero p
 
-pub not_13_for_four_bits : PaddingJudged (0 ∷ 0 ∷ 0 ∷ 0 ∷ []) (verdict.Refused 13) → ⊥
+pub not_13_for_four_bits : PaddingJudged (0 ∷ 0 ∷ 0 ∷ 0 ∷ []) (Err PaddingLong) → ⊥
 unfolding padding_verdict padding_long padding_not_zero padding leftover bits bits_of
-not_13_for_four_bits p = let e : verdict.Refused 13 ≡ verdict.Accepted = p in let z : ◌≡◌ {A = ℕ} 0 1 = cc in omega arith
+not_13_for_four_bits p = err_apart tt PaddingLong p
 
-pub not_unlooked : PaddingJudged (0 ∷ 3 ∷ []) verdict.Accepted → ⊥
+pub not_unlooked : PaddingJudged (0 ∷ 3 ∷ []) (Ok tt) → ⊥
 unfolding padding_verdict padding_long padding_not_zero padding leftover bits bits_of
-not_unlooked p = let e : verdict.Accepted ≡ verdict.Refused 14 = p in let z : ◌≡◌ {A = ℕ} 0 1 = cc in omega arith
+not_unlooked p = err_apart tt PaddingNotZero (sym p)
 
 -- the same of characters, where r is 3
-pub not_the_first_character : CharactersJudged (bytes "rq") (verdict.Refused 14) → ⊥
+pub not_the_first_character : CharactersJudged (bytes "rq") (Err PaddingNotZero) → ⊥
 unfolding padding_verdict padding_long padding_not_zero padding leftover bits bits_of symbol charset
-not_the_first_character p = let e : verdict.Refused 14 ≡ verdict.Accepted = p in let z : ◌≡◌ {A = ℕ} 0 1 = cc in omega arith
+not_the_first_character p = err_apart tt PaddingNotZero p
 
-pub not_13_for_four_characters : CharactersJudged (bytes "qqqq") (verdict.Refused 13) → ⊥
+pub not_13_for_four_characters : CharactersJudged (bytes "qqqq") (Err PaddingLong) → ⊥
 unfolding padding_verdict padding_long padding_not_zero padding leftover bits bits_of symbol charset
-not_13_for_four_characters p = let e : verdict.Refused 13 ≡ verdict.Accepted = p in let z : ◌≡◌ {A = ℕ} 0 1 = cc in omega arith
+not_13_for_four_characters p = err_apart tt PaddingLong p
 
-pub not_unlooked_characters : CharactersJudged (bytes "qr") verdict.Accepted → ⊥
+pub not_unlooked_characters : CharactersJudged (bytes "qr") (Ok tt) → ⊥
 unfolding padding_verdict padding_long padding_not_zero padding leftover bits bits_of symbol charset
-not_unlooked_characters p = let e : verdict.Accepted ≡ verdict.Refused 14 = p in let z : ◌≡◌ {A = ℕ} 0 1 = cc in omega arith
+not_unlooked_characters p = err_apart tt PaddingNotZero (sym p)
 
 -- ---- the walks
 
 -- walks that leave out the first value, or start behind any list and so give nothing
-pub symbols_not_from_the_second : SymbolsBegun (record { at = 1 }) → ⊥
-symbols_not_from_the_second p = let e : ◌≡◌ {A = ℕ} 1 0 = ap (λ (w : BytesToSymbols). w.at) p in omega arith
+pub symbols_not_from_the_second : (place : ℕ × ℕ) (bytes : List ℕ) → SymbolsBegun place bytes (symbols_walk place bytes 1) → ⊥
+symbols_not_from_the_second place bytes p = let e : ◌≡◌ {A = ℕ} 1 0 = ap (λ (w : BytesToSymbols). w.at) p in omega arith
 
-pub symbols_not_at_the_end : SymbolsBegun (record { at = 18446744073709551615 }) → ⊥
-symbols_not_at_the_end p = let e : ◌≡◌ {A = ℕ} 18446744073709551615 0 = ap (λ (w : BytesToSymbols). w.at) p in omega arith
+pub symbols_not_at_the_end : (place : ℕ × ℕ) (bytes : List ℕ) → SymbolsBegun place bytes (symbols_walk place bytes 18446744073709551615) → ⊥
+symbols_not_at_the_end place bytes p = let e : ◌≡◌ {A = ℕ} 18446744073709551615 0 = ap (λ (w : BytesToSymbols). w.at) p in omega arith
 
-pub bytes_not_from_the_second : BytesBegun (record { at = 1 }) → ⊥
-bytes_not_from_the_second p = let e : ◌≡◌ {A = ℕ} 1 0 = ap (λ (w : SymbolsToBytes). w.at) p in omega arith
+pub bytes_not_from_the_second : (place : ℕ × ℕ) (symbols : List ℕ) → BytesBegun place symbols (bytes_walk place symbols 1) → ⊥
+bytes_not_from_the_second place symbols p = let e : ◌≡◌ {A = ℕ} 1 0 = ap (λ (w : SymbolsToBytes). w.at) p in omega arith
 
-pub bytes_not_at_the_end : BytesBegun (record { at = 18446744073709551615 }) → ⊥
-bytes_not_at_the_end p = let e : ◌≡◌ {A = ℕ} 18446744073709551615 0 = ap (λ (w : SymbolsToBytes). w.at) p in omega arith
+pub bytes_not_at_the_end : (place : ℕ × ℕ) (symbols : List ℕ) → BytesBegun place symbols (bytes_walk place symbols 18446744073709551615) → ⊥
+bytes_not_at_the_end place symbols p = let e : ◌≡◌ {A = ℕ} 18446744073709551615 0 = ap (λ (w : SymbolsToBytes). w.at) p in omega arith
+
+-- and over another list than the one lent
+pub symbols_not_of_another : (place : ℕ × ℕ) → SymbolsBegun place (255 ∷ []) (symbols_walk place (254 ∷ []) 0) → ⊥
+symbols_not_of_another place p = let e : ◌≡◌ {A = ℕ} 254 255 = ap (λ (w : BytesToSymbols). get_or w.bytes.now 0 0) p in omega arith
+
+pub bytes_not_of_another : (place : ℕ × ℕ) → BytesBegun place (31 ∷ 28 ∷ []) (bytes_walk place (31 ∷ 27 ∷ []) 0) → ⊥
+bytes_not_of_another place p = let e : ◌≡◌ {A = ℕ} 27 28 = ap (λ (w : SymbolsToBytes). get_or w.symbols.now 1 0) p in omega arith
 
 -- steps that never leave the first value, that give it again, that end one value early, and that give a value past the end
-pub symbols_not_staying : SymbolGiven (255 ∷ []) (record { at = 0 }) (step.Symbol 31 (record { at = 0 })) → ⊥
+pub symbols_not_staying : (place : ℕ × ℕ)
+    → SymbolGiven (symbols_walk place (255 ∷ []) 0) (Some 31) (symbols_walk place (255 ∷ []) 0) → ⊥
+unfolding after_symbol to_symbols whole groups spelled bits bits_of
+symbols_not_staying place p = let e : ◌≡◌ {A = ℕ} 0 1 = ap (λ (w : BytesToSymbols). w.at) p.left in omega arith
+
+pub symbols_not_repeating : (place : ℕ × ℕ)
+    → SymbolGiven (symbols_walk place (255 ∷ []) 1) (Some 31) (symbols_walk place (255 ∷ []) 2) → ⊥
 unfolding symbol_step to_symbols whole groups spelled bits bits_of
-symbols_not_staying p = let e : ◌≡◌ {A = ℕ} 0 1 = ap place_of_symbol_step p in omega arith
+symbols_not_repeating place p = let e : ◌≡◌ {A = ℕ} 31 28 = ap value_of_step p.given in omega arith
 
-pub symbols_not_repeating : SymbolGiven (255 ∷ []) (record { at = 1 }) (step.Symbol 31 (record { at = 2 })) → ⊥
+pub symbols_not_ending_early : (place : ℕ × ℕ) (after : BytesToSymbols) → SymbolGiven (symbols_walk place (255 ∷ []) 1) None after → ⊥
 unfolding symbol_step to_symbols whole groups spelled bits bits_of
-symbols_not_repeating p = let e : ◌≡◌ {A = ℕ} 31 28 = ap symbol_of_symbol_step p in omega arith
+symbols_not_ending_early place after p = let e : ◌≡◌ {A = ℕ} 0 1 = ap given_of_step p.given in omega arith
 
-pub symbols_not_ending_early : SymbolGiven (255 ∷ []) (record { at = 1 }) step.End → ⊥
+pub symbols_not_going_on : (place : ℕ × ℕ)
+    → SymbolGiven (symbols_walk place (255 ∷ []) 2) (Some 0) (symbols_walk place (255 ∷ []) 3) → ⊥
 unfolding symbol_step to_symbols whole groups spelled bits bits_of
-symbols_not_ending_early p = let e : ◌≡◌ {A = ℕ} 0 1 = ap given_of_symbol_step p in omega arith
+symbols_not_going_on place p = let e : ◌≡◌ {A = ℕ} 1 0 = ap given_of_step p.given in omega arith
 
-pub symbols_not_going_on : SymbolGiven (255 ∷ []) (record { at = 2 }) (step.Symbol 0 (record { at = 3 })) → ⊥
-unfolding symbol_step to_symbols whole groups spelled bits bits_of
-symbols_not_going_on p = let e : ◌≡◌ {A = ℕ} 1 0 = ap given_of_symbol_step p in omega arith
+pub bytes_not_staying : (place : ℕ × ℕ)
+    → ByteGiven (bytes_walk place (31 ∷ 0 ∷ 31 ∷ 0 ∷ []) 0) (Some 248) (bytes_walk place (31 ∷ 0 ∷ 31 ∷ 0 ∷ []) 0) → ⊥
+unfolding after_byte to_bytes whole groups spelled bits bits_of
+bytes_not_staying place p = let e : ◌≡◌ {A = ℕ} 0 1 = ap (λ (w : SymbolsToBytes). w.at) p.left in omega arith
 
-pub bytes_not_staying : ByteGiven (31 ∷ 0 ∷ 31 ∷ 0 ∷ []) (record { at = 0 }) (byte.Byte 248 (record { at = 0 })) → ⊥
+pub bytes_not_repeating : (place : ℕ × ℕ)
+    → ByteGiven (bytes_walk place (31 ∷ 0 ∷ 31 ∷ 0 ∷ []) 1) (Some 248) (bytes_walk place (31 ∷ 0 ∷ 31 ∷ 0 ∷ []) 2) → ⊥
 unfolding byte_step to_bytes whole groups spelled bits bits_of
-bytes_not_staying p = let e : ◌≡◌ {A = ℕ} 0 1 = ap place_of_byte_step p in omega arith
+bytes_not_repeating place p = let e : ◌≡◌ {A = ℕ} 248 62 = ap value_of_step p.given in omega arith
 
-pub bytes_not_repeating : ByteGiven (31 ∷ 0 ∷ 31 ∷ 0 ∷ []) (record { at = 1 }) (byte.Byte 248 (record { at = 2 })) → ⊥
+pub bytes_not_ending_early : (place : ℕ × ℕ) (after : SymbolsToBytes) → ByteGiven (bytes_walk place (31 ∷ 0 ∷ 31 ∷ 0 ∷ []) 1) None after → ⊥
 unfolding byte_step to_bytes whole groups spelled bits bits_of
-bytes_not_repeating p = let e : ◌≡◌ {A = ℕ} 248 62 = ap byte_of_byte_step p in omega arith
+bytes_not_ending_early place after p = let e : ◌≡◌ {A = ℕ} 0 1 = ap given_of_step p.given in omega arith
 
-pub bytes_not_ending_early : ByteGiven (31 ∷ 0 ∷ 31 ∷ 0 ∷ []) (record { at = 1 }) byte.End → ⊥
+pub bytes_not_going_on : (place : ℕ × ℕ)
+    → ByteGiven (bytes_walk place (31 ∷ 0 ∷ 31 ∷ 0 ∷ []) 2) (Some 0) (bytes_walk place (31 ∷ 0 ∷ 31 ∷ 0 ∷ []) 3) → ⊥
 unfolding byte_step to_bytes whole groups spelled bits bits_of
-bytes_not_ending_early p = let e : ◌≡◌ {A = ℕ} 0 1 = ap given_of_byte_step p in omega arith
-
-pub bytes_not_going_on : ByteGiven (31 ∷ 0 ∷ 31 ∷ 0 ∷ []) (record { at = 2 }) (byte.Byte 0 (record { at = 3 })) → ⊥
-unfolding byte_step to_bytes whole groups spelled bits bits_of
-bytes_not_going_on p = let e : ◌≡◌ {A = ℕ} 1 0 = ap given_of_byte_step p in omega arith
+bytes_not_going_on place p = let e : ◌≡◌ {A = ℕ} 1 0 = ap given_of_step p.given in omega arith

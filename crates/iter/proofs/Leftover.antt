@@ -2,7 +2,7 @@
 -- The leftover bits, where they are fewer than five, are the low bits of the last symbol.
 use mathlib.Core.Path.{◌≡◌, refl, sym, ap, ◌∙◌}
 use mathlib.Core.Bool.{Bool, not, ◌||◌}
-use mathlib.Core.List.{List, [], ◌∷◌, append-nil}
+use mathlib.Core.List.{List, [], ◌∷◌, map, append-nil}
 use Prim.Native.Nat.{ℕ, zero, suc, ◌+◌, ◌-◌, ◌*◌, ◌/◌, ◌%◌, ◌^◌, ◌≤◌, ◌<◌}
 use native.Mathlib.Nat.{zero-add, zero-mul, one-mul, suc-mul, mod-one, mul-add-mod_self_right}
 use native.Mathlib.Omega.{arith}
@@ -14,10 +14,13 @@ use lib.Seq.{drop-cons, drop-drop, drop_at}
 use Rattle.laws.specs.Lists.{any}
 use Rattle.paper.specs.Bits.{bits_of, bits, leftover, padding}
 use Rattle.answers.specs.Rules.{padding_long, padding_not_zero, padding_verdict}
-use Rattle.answers.specs.declared.Verdict.TheVariants.{Accepted, Refused}
 use Rattle.iter.proofs.Bits.{mod_digit, bits_of_length, bits_of_add, bits_of_mod, bits_length, bits_drop}
 use Rattle.iter.proofs.Lengths.{padding_length}
 use Rattle.iter.proofs.Round.{none_left, is_set}
+use Rattle.numbers.specs.declared.Refusal.TheVariants.{PaddingLong, PaddingNotZero}
+use Rattle.std.specs.Prelude.{Ok, Err, Some, None, slice_get}
+use Rattle.std.specs.Option.{option_map}
+use Rattle.std.proofs.lemmas.Option.{slice_get-get_or, slice_get-map, get_or_from_slice_get}
 
 -- some bit is set exactly if the number is not zero
 any_bit : (k v : ℕ) → any is_set (bits_of k v) ≡ not (eqb (v % 2 ^ k) 0)
@@ -89,12 +92,25 @@ low_bits_of_last symbols (suc n) last all same few =
         ∙ ap (bits_of 5) (ap (λ (i : ℕ). get_or symbols i 0 % 32) before ∙ same)
         ∙ bits_of_mod 5 last
 
-pub padding_none : (symbols : List ℕ) → length symbols ≡ 0 → Accepted ≡ padding_verdict symbols
+-- a list without a last number is empty
+pub none_last : (list : List ℕ) → slice_get list (length list - 1) ≡ None → length list ≡ 0
+none_last [] e = refl
+none_last (x ∷ list) e = let some = slice_get-get_or (x ∷ list) (length (x ∷ list) - 1) 0 (omega arith) in cc
+
+-- the last number counts as the last symbol that is read
+pub last_symbol : (read : ℕ → ℕ) (list : List ℕ) (v r : ℕ) → slice_get list (length list - 1) ≡ Some v → r ≡ read v
+    → get_or (map read list) (length list - 1) 0 % 32 ≡ r % 32
+last_symbol read list v r e told = ap (λ (x : ℕ). x % 32) (get_or_from_slice_get (map read list) (length list - 1) (read v) 0 there ∙ sym told)
+  where
+    there : slice_get (map read list) (length list - 1) ≡ Some (read v)
+    there = slice_get-map read list (length list - 1) ∙ ap (option_map read) e
+
+pub padding_none : (symbols : List ℕ) → length symbols ≡ 0 → Ok tt ≡ padding_verdict symbols
 unfolding padding_verdict padding_long padding_not_zero
 padding_none symbols e = rw (none_left (padding symbols) (left_length symbols 0 e))
 
 module _ (symbols : List ℕ) (count last : ℕ) (all : length symbols ≡ count) (same : get_or symbols (count - 1) 0 % 32 ≡ last % 32) where
-  pub padding_long_lem : 4 < left_of count → Refused 13 ≡ padding_verdict symbols
+  pub padding_long_lem : 4 < left_of count → Err PaddingLong ≡ padding_verdict symbols
   unfolding padding_verdict padding_long
   padding_long_lem h = rw (left_length symbols count all, lt-ltb 4 (left_of count) h)
 
@@ -102,13 +118,13 @@ module _ (symbols : List ℕ) (count last : ℕ) (all : length symbols ≡ count
     bits_left : padding symbols ≡ bits_of (left_of count) last
     bits_left = low_bits_of_last symbols count last all same few
 
-    pub padding_set : (last % (1 * 2 ^ left_of count % 256) ≡ 0 → ⊥) → Refused 14 ≡ padding_verdict symbols
+    pub padding_set : (last % (1 * 2 ^ left_of count % 256) ≡ 0 → ⊥) → Err PaddingNotZero ≡ padding_verdict symbols
     unfolding padding_verdict padding_long padding_not_zero
     padding_set h =
         let set : last % 2 ^ left_of count ≡ 0 → ⊥ = λ z. h (ap (λ (m : ℕ). last % m) (shifted_one (left_of count) few) ∙ z) in
         rw (left_length symbols count all, le-ltb 4 (left_of count) few, bits_left, any_bit (left_of count) last, ne_eqb (last % 2 ^ left_of count) 0 set)
 
-    pub padding_clear : last % (1 * 2 ^ left_of count % 256) ≡ 0 → Accepted ≡ padding_verdict symbols
+    pub padding_clear : last % (1 * 2 ^ left_of count % 256) ≡ 0 → Ok tt ≡ padding_verdict symbols
     unfolding padding_verdict padding_long padding_not_zero
     padding_clear h =
         rw (left_length symbols count all, le-ltb 4 (left_of count) few, bits_left, any_bit (left_of count) last, ← shifted_one (left_of count) few, h)

@@ -15,7 +15,7 @@ use Rattle.laws.specs.Lists.{Every, any}
 use Rattle.laws.proofs.Bools.{or_first, or_second}
 use Rattle.paper.specs.Bits.{bits, whole, leftover, to_bytes, padding, to_symbols}
 use Rattle.answers.specs.Rules.{padding_long, padding_not_zero, padding_verdict}
-use Rattle.answers.specs.declared.Verdict.TheVariants.{Accepted}
+use Rattle.std.specs.Prelude.{Ok}
 use Rattle.iter.proofs.Bits.{bits_length}
 use Rattle.iter.proofs.Groups.{bits_binary, leftover_length, bits_whole, whole_bits, leftover_bits}
 use Rattle.iter.proofs.Lengths.{filling, fill, filling_lt, filled_length, filled_binary}
@@ -91,7 +91,7 @@ written_padding_short bytes = rw (padding_filled bytes) (le_of_suc-le-suc (filli
 pub written_padding_zero : (bytes : List ℕ) → Every (λ b. b ≡ 0) (padding (to_symbols bytes))
 written_padding_zero bytes = rw (padding_filled bytes) (zeros_zero (filling (length (bits 8 bytes))))
 
-pub written_padding : (bytes : List ℕ) → padding_verdict (to_symbols bytes) ≡ Accepted
+pub written_padding : (bytes : List ℕ) → padding_verdict (to_symbols bytes) ≡ Ok tt
 unfolding padding_verdict padding_long padding_not_zero
 written_padding bytes =
     rw (padding_filled bytes, le-ltb 4 (length (fill bytes)) (le_of_suc-le-suc (filling_few bytes 5 (le_refl 5))), zeros_pass (filling (length (bits 8 bytes))))

@@ -1,66 +1,74 @@
 -- Steps from the start give the paper's list, and past its end nothing.
 -- From any walk they give what is left of the list: each step is the head of it.
-use mathlib.Core.Path.{◌≡◌, refl, sym, ap, ◌∙◌}
+use mathlib.Core.Path.{◌≡◌, refl, ap, ◌∙◌}
 use mathlib.Core.Bool.{Bool, true, false}
 use mathlib.Core.List.{List, [], ◌∷◌}
-use Prim.Native.Nat.{ℕ, zero, suc, ◌+◌, ◌≤◌, ◌<◌}
+use Prim.Native.Nat.{ℕ, zero, suc, ◌≤◌}
 use native.Mathlib.Numerals.{add-one}
 use borrow.Author.Tests.{leb-true, leb-false}
 use lib.Dec.{leb}
 use lib.ListN.{length, take, drop, get_or, drop_of_length-le}
-use lib.Seq.{drop-cons, take-nil, take_all}
+use lib.Seq.{drop-cons, take_all}
+use Rattle.std.specs.Prelude.{Option, Some, None, MatchOption, slice_get}
+use Rattle.std.specs.Iterator.{YieldsFirst}
 use Rattle.paper.specs.Bits.{to_bytes, to_symbols}
 use Rattle.iter.specs.declared.BytesToSymbols.{BytesToSymbols}
 use Rattle.iter.specs.declared.SymbolsToBytes.{SymbolsToBytes}
-use Rattle.iter.specs.Steps.{first_symbol, first_byte, symbols_walked, bytes_walked}
-use Rattle.iter.proofs.Answers.{no_symbol, a_symbol, no_byte, a_byte}
+use Rattle.iter.specs.Steps.{place_after, symbols_left, bytes_left, symbols_walk, bytes_walk, symbol_step, after_symbol, byte_step, after_byte, first_given, symbols_walked, bytes_walked}
+use Rattle.iter.specs.Promises.{SymbolGiven, ByteGiven}
+use Rattle.iter.proofs.Answers.{at_end, at_value}
 
--- what is left of a list, one more value of it
-at_end : (list : List ℕ) (n at : ℕ) → length list ≤ at → [] ≡ take (suc n) (drop at list)
-at_end list n at h = sym (ap (take (suc n)) (drop_of_length-le list h) ∙ take-nil (suc n))
+-- of what is left of a list a step gives the head, and leaves the others
+abbrev HeadGiven : List ℕ → ℕ → Option ℕ → Type 0
+HeadGiven list at r =
+    MatchOption r ((drop at list ≡ []) × (drop (place_after list at) list ≡ [])) (λ v. drop at list ≡ v ∷ drop (place_after list at) list)
 
-one_more : (list : List ℕ) (n at : ℕ) → at < length list → get_or list at 0 ∷ take n (drop (at + 1) list) ≡ take (suc n) (drop at list)
-one_more list n at h = rw (add-one at) (sym (ap (take (suc n)) (drop-cons list at 0 h)))
-
-pub symbols_walked_lem : (n : ℕ) (bytes : List ℕ) (walk : BytesToSymbols) → symbols_walked n bytes walk ≡ take n (drop walk.at (to_symbols bytes))
-symbols_walked_lem zero bytes walk = refl
-symbols_walked_lem (suc n) bytes walk = go (leb (length list) walk.at) refl (symbols_walked_lem n bytes (record { at = walk.at + 1 }))
+head_given : (list : List ℕ) (at : ℕ) → HeadGiven list at (slice_get list at)
+head_given list at = go (leb (length list) at) refl
   where
-    list : List ℕ
-    list = to_symbols bytes
+    go : (b : Bool) → leb (length list) at ≡ b → HeadGiven list at (slice_get list at)
+    go true e =
+        let h = leb-true (length list) at e in
+        let none = at_end list at (length list) refl h in
+        rw (← none.0, ← none.1) (drop_of_length-le list h, drop_of_length-le list h)
+    go false e =
+        let h = leb-false (length list) at e in
+        let some = at_value list at (length list) refl h (get_or list at 0) refl in
+        rw (← some.0, ← some.1, add-one at) (drop-cons list at 0 h)
 
-    go : (b : Bool) → leb (length list) walk.at ≡ b → symbols_walked n bytes (record { at = walk.at + 1 }) ≡ take n (drop (walk.at + 1) list)
-        → symbols_walked (suc n) bytes walk ≡ take (suc n) (drop walk.at list)
-    go true e ih =
-        let h = leb-true (length list) walk.at e in
-        ap (λ step. first_symbol step (symbols_walked n bytes)) (sym (no_symbol bytes walk.at (length list) refl h)) ∙ at_end list n walk.at h
-    go false e ih =
-        let h = leb-false (length list) walk.at e in
-        ap (λ step. first_symbol step (symbols_walked n bytes)) (sym (a_symbol bytes walk.at (length list) refl h (get_or list walk.at 0) refl))
-        ∙ ap (λ (l : List ℕ). get_or list walk.at 0 ∷ l) ih
-        ∙ one_more list n walk.at h
+-- so each walk is an iterator over what is left
+pub symbol_yields : (walk after : BytesToSymbols) (r : Option ℕ) → SymbolGiven walk r after → YieldsFirst symbols_left walk r after
+unfolding symbol_step after_symbol
+symbol_yields walk after r p = rw (p.given, p.left) (head_given (to_symbols walk.bytes.now) walk.at)
 
-pub bytes_walked_lem : (n : ℕ) (symbols : List ℕ) (walk : SymbolsToBytes) → bytes_walked n symbols walk ≡ take n (drop walk.at (to_bytes symbols))
-bytes_walked_lem zero symbols walk = refl
-bytes_walked_lem (suc n) symbols walk = go (leb (length list) walk.at) refl (bytes_walked_lem n symbols (record { at = walk.at + 1 }))
+pub byte_yields : (walk after : SymbolsToBytes) (r : Option ℕ) → ByteGiven walk r after → YieldsFirst bytes_left walk r after
+unfolding byte_step after_byte
+byte_yields walk after r p = rw (p.given, p.left) (head_given (to_bytes walk.symbols.now) walk.at)
+
+one_step : (list : List ℕ) (n at : ℕ) → first_given (slice_get list at) (take n (drop (place_after list at) list)) ≡ take (suc n) (drop at list)
+one_step list n at = go (slice_get list at) (head_given list at)
   where
-    list : List ℕ
-    list = to_bytes symbols
+    go : (r : Option ℕ) → HeadGiven list at r → first_given r (take n (drop (place_after list at) list)) ≡ take (suc n) (drop at list)
+    go None left = rw left.0 refl
+    go (Some v) left = rw left refl
 
-    go : (b : Bool) → leb (length list) walk.at ≡ b → bytes_walked n symbols (record { at = walk.at + 1 }) ≡ take n (drop (walk.at + 1) list)
-        → bytes_walked (suc n) symbols walk ≡ take (suc n) (drop walk.at list)
-    go true e ih =
-        let h = leb-true (length list) walk.at e in
-        ap (λ step. first_byte step (bytes_walked n symbols)) (sym (no_byte symbols walk.at (length list) refl h)) ∙ at_end list n walk.at h
-    go false e ih =
-        let h = leb-false (length list) walk.at e in
-        ap (λ step. first_byte step (bytes_walked n symbols)) (sym (a_byte symbols walk.at (length list) refl h (get_or list walk.at 0) refl))
-        ∙ ap (λ (l : List ℕ). get_or list walk.at 0 ∷ l) ih
-        ∙ one_more list n walk.at h
+pub symbols_walked_lem : (n : ℕ) (walk : BytesToSymbols) → symbols_walked n walk ≡ take n (drop walk.at (to_symbols walk.bytes.now))
+unfolding symbol_step after_symbol
+symbols_walked_lem zero walk = refl
+symbols_walked_lem (suc n) walk =
+    ap (first_given (symbol_step walk)) (symbols_walked_lem n (after_symbol walk)) ∙ one_step (to_symbols walk.bytes.now) n walk.at
+
+pub bytes_walked_lem : (n : ℕ) (walk : SymbolsToBytes) → bytes_walked n walk ≡ take n (drop walk.at (to_bytes walk.symbols.now))
+unfolding byte_step after_byte
+bytes_walked_lem zero walk = refl
+bytes_walked_lem (suc n) walk =
+    ap (first_given (byte_step walk)) (bytes_walked_lem n (after_byte walk)) ∙ one_step (to_bytes walk.symbols.now) n walk.at
 
 -- from the start
-pub all_symbols_walked : (n : ℕ) (bytes : List ℕ) → length (to_symbols bytes) ≤ n → symbols_walked n bytes (record { at = 0 }) ≡ to_symbols bytes
-all_symbols_walked n bytes h = symbols_walked_lem n bytes (record { at = 0 }) ∙ take_all n (to_symbols bytes) h
+pub all_symbols_walked : (n : ℕ) (place : ℕ × ℕ) (bytes : List ℕ) → length (to_symbols bytes) ≤ n
+    → symbols_walked n (symbols_walk place bytes 0) ≡ to_symbols bytes
+all_symbols_walked n place bytes h = symbols_walked_lem n (symbols_walk place bytes 0) ∙ take_all n (to_symbols bytes) h
 
-pub all_bytes_walked : (n : ℕ) (symbols : List ℕ) → length (to_bytes symbols) ≤ n → bytes_walked n symbols (record { at = 0 }) ≡ to_bytes symbols
-all_bytes_walked n symbols h = bytes_walked_lem n symbols (record { at = 0 }) ∙ take_all n (to_bytes symbols) h
+pub all_bytes_walked : (n : ℕ) (place : ℕ × ℕ) (symbols : List ℕ) → length (to_bytes symbols) ≤ n
+    → bytes_walked n (bytes_walk place symbols 0) ≡ to_bytes symbols
+all_bytes_walked n place symbols h = bytes_walked_lem n (bytes_walk place symbols 0) ∙ take_all n (to_bytes symbols) h

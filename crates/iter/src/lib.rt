@@ -2,45 +2,23 @@
 // A symbol counts by its low five bits.
 #![tactic(auto)]
 
-ghost use Rattle.std.specs.Prelude.{◌≡◌, List, ◌++◌, map, ℕ, ◌+◌, ◌-◌, ◌*◌, ◌/◌, ◌%◌, ◌^◌, ◌≤◌, ◌<◌, length, get_or, drop};
+ghost use Rattle.std.specs.Prelude.{◌≡◌, List, map, ℕ, ◌+◌, ◌-◌, ◌*◌, ◌/◌, ◌%◌, ◌^◌, ◌<◌, length, get_or};
+ghost use Rattle.std.specs.Iterator.{YieldsFirst, item_count};
 ghost use Rattle.paper.specs.Bits.{to_bytes, to_symbols};
 ghost use Rattle.paper.specs.Charset.{symbol};
-ghost use Rattle.gf32.specs.Promises.{ClassesGiven};
 ghost use Rattle.answers.specs.Rules.{padding_verdict};
+ghost use Rattle.iter.specs.Writing.{Wrote, Gives};
+ghost use Rattle.iter.specs.Steps.{symbols_left, bytes_left};
 ghost use Rattle.iter.specs.Promises.{SymbolsCounted, BytesCounted, SymbolsWritten, BytesWritten, CharactersWritten, PaddingJudged, CharactersJudged, SymbolsBegun, SymbolGiven, BytesBegun, ByteGiven};
 
-use answers::{Verdict, Written};
-use numbers::{PADDING_LONG, PADDING_NOT_ZERO, ROOM_SMALL};
+use gf32::Classes;
+use numbers::Refusal;
 
 // Of the bits left over at the end, so many may be padding.
 const MAX_PADDING: usize = 4;
 
-// A walk over the symbols of a slice of bytes: how many it gave. Every count is a legal walk.
-#[derive(Clone, Copy)]
-pub struct BytesToSymbols {
-    pub at: usize,
-}
-
-// A walk over the bytes of a slice of symbols: how many it gave.
-#[derive(Clone, Copy)]
-pub struct SymbolsToBytes {
-    pub at: usize,
-}
-
-// What a walk gives next, and the walk after it.
-#[derive(Clone, Copy)]
-pub enum SymbolStep {
-    Symbol(u8, BytesToSymbols),
-    End,
-}
-
-#[derive(Clone, Copy)]
-pub enum ByteStep {
-    Byte(u8, SymbolsToBytes),
-    End,
-}
-
 // How many symbols bytes_to_symbols would write. The division comes first, so that no product overflows.
+#[tactic(auto, using(crate::proofs::Lengths::symbols_length))]
 pub fn symbols_for_bytes(bytes: &[u8]) -> usize
     ensures { SymbolsCounted bytes.now result }
 {
@@ -49,6 +27,7 @@ pub fn symbols_for_bytes(bytes: &[u8]) -> usize
 }
 
 // How many bytes symbols_to_bytes would write.
+#[tactic(auto, using(crate::proofs::Lengths::bytes_length))]
 pub fn bytes_for_symbols(symbols: &[u8]) -> usize
     ensures { BytesCounted symbols.now result }
 {
@@ -57,215 +36,222 @@ pub fn bytes_for_symbols(symbols: &[u8]) -> usize
 }
 
 // The last symbol is filled up with zero bits.
-pub fn bytes_to_symbols(bytes: &[u8], out: &mut [u8]) -> Written
+pub fn bytes_to_symbols(bytes: &[u8], out: &mut [u8]) -> Result<usize, Refusal>
     ensures { SymbolsWritten bytes.now out.old result out.new }
 {
-    let symbols = symbols_for_bytes(bytes);
-    if out.len() < symbols {
-        return Written::Refused(ROOM_SMALL);
-    }
-    put_symbols(bytes, out, symbols);
-    Written::Accepted(symbols)
+    write(out, symbols_for_bytes(bytes), |at| symbol_at(bytes, at))
 }
 
 // Bits left over at the end are dropped unlooked; `padding` judges them.
-pub fn symbols_to_bytes(symbols: &[u8], out: &mut [u8]) -> Written
+pub fn symbols_to_bytes(symbols: &[u8], out: &mut [u8]) -> Result<usize, Refusal>
     ensures { BytesWritten symbols.now out.old result out.new }
 {
-    let bytes = bytes_for_symbols(symbols);
-    if out.len() < bytes {
-        return Written::Refused(ROOM_SMALL);
-    }
-    put_bytes(symbols, out, bytes);
-    Written::Accepted(bytes)
+    write(out, bytes_for_symbols(symbols), |at| {
+        byte_at(&Plain, symbols, at)
+    })
 }
 
 // The same from characters of the charset, of either case. A byte outside the charset, which readers refuse before, counts as symbol 0.
-pub fn characters_to_bytes(characters: &[u8], out: &mut [u8]) -> Written
+#[tactic(auto, using(crate::proofs::Characters::characters_length))]
+pub fn characters_to_bytes(characters: &[u8], out: &mut [u8]) -> Result<usize, Refusal>
     ensures { CharactersWritten characters.now out.old result out.new }
 {
-    let count = bytes_for_symbols(characters);
-    if out.len() < count {
-        return Written::Refused(ROOM_SMALL);
-    }
-    put_bytes_of(characters, out, count);
-    Written::Accepted(count)
+    let classes = gf32::classes();
+    write(out, bytes_for_symbols(characters), |at| {
+        byte_at(&classes, characters, at)
+    })
 }
 
 // Document 01, answers 13 and 14: the bits that symbols_to_bytes drops.
-pub fn padding(symbols: &[u8]) -> Verdict
+pub fn padding(symbols: &[u8]) -> Result<(), Refusal>
     ensures { PaddingJudged symbols.now result }
 {
-    let n = symbols.len();
-    if n == 0 {
-        return Verdict::Accepted;
-    }
-    padding_after(n, symbols[n - 1])
+    padding_in(&Plain, symbols)
 }
 
 // The same from characters, as in characters_to_bytes.
-pub fn padding_of_characters(characters: &[u8]) -> Verdict
+pub fn padding_of_characters(characters: &[u8]) -> Result<(), Refusal>
     ensures { CharactersJudged characters.now result }
 {
-    let n = characters.len();
-    if n == 0 {
-        return Verdict::Accepted;
-    }
-    let classes = gf32::classes();
-    padding_after(n, nth_of(&classes, characters, n - 1))
+    padding_in(&gf32::classes(), characters)
 }
 
-impl BytesToSymbols {
-    pub fn new() -> Self
-        ensures { SymbolsBegun result }
+// A walk over the symbols of a slice of bytes: the slice, and how many it gave. Every count is a legal walk.
+#[derive(Clone, Drop)]
+pub struct BytesToSymbols<'a> {
+    pub bytes: &'a [u8],
+    pub at: usize,
+}
+
+impl<'a> BytesToSymbols<'a> {
+    pub fn new(bytes: &'a [u8]) -> Self
+        ensures { SymbolsBegun bytes.entry.ref_ptr bytes.now result }
     {
-        BytesToSymbols { at: 0 }
+        BytesToSymbols { bytes, at: 0 }
     }
 
-    pub fn next(self, bytes: &[u8]) -> SymbolStep
-        ensures { SymbolGiven bytes.now self result }
+    // The iterator's step is this one; a trait's method would not have this promise.
+    pub fn next(&mut self) -> Option<u8>
+        ensures { SymbolGiven self.old result self.new }
     {
-        let at = self.at;
-        if symbols_for_bytes(bytes) <= at {
-            return SymbolStep::End;
+        if symbols_for_bytes(self.bytes) <= self.at {
+            return None;
         }
-        SymbolStep::Symbol(nth_symbol(bytes, at), BytesToSymbols { at: at + 1 })
+        let symbol = symbol_at(self.bytes, self.at);
+        self.at += 1;
+        Some(symbol)
     }
 }
 
-impl SymbolsToBytes {
-    pub fn new() -> Self
-        ensures { BytesBegun result }
-    {
-        SymbolsToBytes { at: 0 }
+impl<'a> Iterator for BytesToSymbols<'a> {
+    type Item = u8;
+
+    ghost next_gives = { YieldsFirst symbols_left };
+
+    ghost remaining = { item_count symbols_left };
+
+    fn next(&mut self) -> Option<u8> {
+        BytesToSymbols::next(self)
     }
 
-    pub fn next(self, symbols: &[u8]) -> ByteStep
-        ensures { ByteGiven symbols.now self result }
+    fn size_hint(&self) -> (usize, Option<usize>) {
+        let left = symbols_for_bytes(self.bytes).saturating_sub(self.at);
+        (left, Some(left))
+    }
+}
+
+// A walk over the bytes of a slice of symbols, the same way. Both are public, so each has its own type and promises.
+#[derive(Clone, Drop)]
+pub struct SymbolsToBytes<'a> {
+    pub symbols: &'a [u8],
+    pub at: usize,
+}
+
+impl<'a> SymbolsToBytes<'a> {
+    pub fn new(symbols: &'a [u8]) -> Self
+        ensures { BytesBegun symbols.entry.ref_ptr symbols.now result }
     {
-        let at = self.at;
-        if bytes_for_symbols(symbols) <= at {
-            return ByteStep::End;
+        SymbolsToBytes { symbols, at: 0 }
+    }
+
+    pub fn next(&mut self) -> Option<u8>
+        ensures { ByteGiven self.old result self.new }
+    {
+        if bytes_for_symbols(self.symbols) <= self.at {
+            return None;
         }
-        ByteStep::Byte(nth_byte(symbols, at), SymbolsToBytes { at: at + 1 })
+        let byte = byte_at(&Plain, self.symbols, self.at);
+        self.at += 1;
+        Some(byte)
     }
 }
 
-// The bits left over of so many symbols are low bits of the last, unless there are too many of them.
-fn padding_after(count: usize, last: u8) -> Verdict
-    ensures { (symbols : List ℕ) → length symbols ≡ count → get_or symbols (count - 1) 0 % 32 ≡ last % 32 → result ≡ padding_verdict symbols }
+impl<'a> Iterator for SymbolsToBytes<'a> {
+    type Item = u8;
+
+    ghost next_gives = { YieldsFirst bytes_left };
+
+    ghost remaining = { item_count bytes_left };
+
+    fn next(&mut self) -> Option<u8> {
+        SymbolsToBytes::next(self)
+    }
+
+    fn size_hint(&self) -> (usize, Option<usize>) {
+        let left = bytes_for_symbols(self.symbols).saturating_sub(self.at);
+        (left, Some(left))
+    }
+}
+
+// How a byte of a list stands for a symbol.
+trait Reading {
+    ghost symbol_of: { ℕ → ℕ };
+
+    fn read(&self, byte: u8) -> u8
+        ensures { result ≡ symbol_of byte };
+}
+
+// It is the symbol.
+struct Plain;
+
+impl Reading for Plain {
+    ghost symbol_of = { λ v. v };
+
+    fn read(&self, byte: u8) -> u8 {
+        byte
+    }
+}
+
+// It is the symbol's character. The table of classes is taken once for all bytes.
+impl Reading for Classes {
+    ghost symbol_of = { symbol };
+
+    fn read(&self, byte: u8) -> u8 {
+        self.symbol(byte)
+    }
+}
+
+// Writes so many values to the front of a buffer, each as the function gives it for its place.
+fn write<F: Fn(usize) -> u8>(out: &mut [u8], count: usize, value: F) -> Result<usize, Refusal>
+    requires { (at : ℕ) → at < count → F.pre value at }
+    ensures { (list : List ℕ) → length list ≡ count → Gives (F.post value) list → Wrote list out.old result out.new }
 {
-    let left = count % 8 * 5 % 8;
+    if out.len() < count {
+        return Err(Refusal::RoomSmall);
+    }
+    let front = &mut out[..count];
+    for (at, place) in front.iter_mut().enumerate() {
+        *place = value(at);
+    }
+    Ok(count)
+}
+
+// The bits left over are low bits of the last symbol, unless there are too many of them.
+fn padding_in<R: Reading>(reading: &R, list: &[u8]) -> Result<(), Refusal>
+    ensures { result ≡ padding_verdict (map R.symbol_of list.now) }
+{
+    let Some(last) = list.last() else {
+        return Ok(());
+    };
+    let left = list.len() % 8 * 5 % 8;
     if MAX_PADDING < left {
-        return Verdict::Refused(PADDING_LONG);
+        return Err(Refusal::PaddingLong);
     }
-    if last % (1 << left) != 0 {
-        return Verdict::Refused(PADDING_NOT_ZERO);
+    if reading.read(*last) % (1 << left) != 0 {
+        return Err(Refusal::PaddingNotZero);
     }
-    Verdict::Accepted
+    Ok(())
 }
 
-fn put_symbols(bytes: &[u8], out: &mut [u8], count: usize)
-    requires { (count ≡ length (to_symbols bytes.now)) × (count ≤ length out.old) }
-    ensures { out.new ≡ to_symbols bytes.now ++ drop count out.old }
-{
-    let mut at = 0;
-    while at < count {
-        out[at] = nth_symbol(bytes, at);
-        at += 1;
-    }
-}
-
-fn put_bytes(symbols: &[u8], out: &mut [u8], count: usize)
-    requires { (count ≡ length (to_bytes symbols.now)) × (count ≤ length out.old) }
-    ensures { out.new ≡ to_bytes symbols.now ++ drop count out.old }
-{
-    let mut at = 0;
-    while at < count {
-        out[at] = nth_byte(symbols, at);
-        at += 1;
-    }
-}
-
-// The table of classes is taken once.
-fn put_bytes_of(characters: &[u8], out: &mut [u8], count: usize)
-    requires { (count ≡ length (to_bytes (map symbol characters.now))) × (count ≤ length out.old) }
-    ensures { out.new ≡ to_bytes (map symbol characters.now) ++ drop count out.old }
-{
-    let classes = gf32::classes();
-    let mut at = 0;
-    while at < count {
-        out[at] = nth_byte_of(&classes, characters, at);
-        at += 1;
-    }
-}
-
-// Five bits that start in the byte `first` lie in two bytes.
-fn nth_symbol(bytes: &[u8], at: usize) -> u8
+// Five bits that start in the byte `first` lie in two bytes. One function for this and byte_at, over both widths, would be no plainer: the windows differ.
+fn symbol_at(bytes: &[u8], at: usize) -> u8
     requires { at < length (to_symbols bytes.now) }
     ensures { result ≡ get_or (to_symbols bytes.now) at 0 }
 {
     let first = at / 8 * 5 + at % 8 * 5 / 8;
     let offset = at % 8 * 5 % 8;
-    let window = (nth(bytes, first) as u16) * 256 + nth(bytes, first + 1) as u16;
+    let window = (nth(&Plain, bytes, first) as u16) * 256 + nth(&Plain, bytes, first + 1) as u16;
     ((window >> (11 - offset)) % 32) as u8
 }
 
 // Eight bits that start in the symbol `first` lie in three symbols.
-fn nth_byte(symbols: &[u8], at: usize) -> u8
-    requires { at < length (to_bytes symbols.now) }
-    ensures { result ≡ get_or (to_bytes symbols.now) at 0 }
+#[tactic(auto, using(crate::proofs::Places::first_symbol_in))]
+fn byte_at<R: Reading>(reading: &R, list: &[u8], at: usize) -> u8
+    requires { at < length (to_bytes list.now) }
+    ensures { result ≡ get_or (to_bytes (map R.symbol_of list.now)) at 0 }
 {
     let first = at / 5 * 8 + at % 5 * 8 / 5;
     let offset = at % 5 * 8 % 5;
-    byte_of(
-        nth(symbols, first),
-        nth(symbols, first + 1),
-        nth(symbols, first + 2),
-        offset,
-    )
-}
-
-fn nth_byte_of(classes: &[u8; 256], characters: &[u8], at: usize) -> u8
-    requires { ClassesGiven classes.now × (at < length (to_bytes (map symbol characters.now))) }
-    ensures { result ≡ get_or (to_bytes (map symbol characters.now)) at 0 }
-{
-    let first = at / 5 * 8 + at % 5 * 8 / 5;
-    let offset = at % 5 * 8 % 5;
-    byte_of(
-        nth_of(classes, characters, first),
-        nth_of(classes, characters, first + 1),
-        nth_of(classes, characters, first + 2),
-        offset,
-    )
-}
-
-// The byte that starts at a bit of the first of three symbols.
-fn byte_of(x: u8, y: u8, z: u8, offset: usize) -> u8
-    requires { offset < 5 }
-    ensures { result ≡ (x % 32 * 1024 + y % 32 * 32 + z % 32) / 2 ^ (7 - offset) % 256 }
-{
-    let window = ((x % 32) as u16) * 1024 + ((y % 32) as u16) * 32 + (z % 32) as u16;
+    let x = nth(reading, list, first) % 32;
+    let y = nth(reading, list, first + 1) % 32;
+    let z = nth(reading, list, first + 2) % 32;
+    let window = (x as u16) * 1024 + (y as u16) * 32 + z as u16;
     ((window >> (7 - offset)) % 256) as u8
 }
 
 // Past the end stand zeros.
-fn nth(list: &[u8], at: usize) -> u8
-    ensures { result ≡ get_or list.now at 0 }
+fn nth<R: Reading>(reading: &R, list: &[u8], at: usize) -> u8
+    ensures { result ≡ get_or (map R.symbol_of list.now) at 0 }
 {
-    if at < list.len() {
-        return list[at];
-    }
-    0
-}
-
-// The same for the symbols of characters.
-fn nth_of(classes: &[u8; 256], characters: &[u8], at: usize) -> u8
-    requires { ClassesGiven classes.now }
-    ensures { result ≡ get_or (map symbol characters.now) at 0 }
-{
-    if at < characters.len() {
-        return gf32::class_symbol(classes[characters[at] as usize]);
-    }
-    0
+    list.get(at).map_or(0, |byte| reading.read(*byte))
 }

@@ -10,11 +10,12 @@ use lib.Seq.{take_all, length-take-le}
 use borrow.Author.Tests.{lt-ltb, ltb-true, ltb-false}
 use Rattle.laws.specs.Pick.{pick}
 use Rattle.answers.specs.Reading.{address_verdict, longer_than}
-use Rattle.answers.specs.Numbers.{number_of_address}
-use Rattle.answers.specs.declared.Address.TheVariants.{Refused}
+use Rattle.numbers.specs.Numbers.{number_in}
 use Rattle.lines.specs.Lines.{answer_to}
+use Rattle.numbers.specs.declared.Refusal.TheVariants.{AddressLong}
+use Rattle.std.specs.Prelude.{Err}
 
-pub long_10 : (l : List ℕ) → 90 < length l → address_verdict l ≡ Refused 10
+pub long_10 : (l : List ℕ) → 90 < length l → address_verdict l ≡ Err AddressLong
 unfolding address_verdict longer_than
 long_10 l h = rw (lt-ltb 90 (length l) h)
 
@@ -39,4 +40,4 @@ digits_length false x y z = omega arith
 pub answer_length_lem : (l : List ℕ) → length (answer_to l) ≤ 3
 unfolding answer_to
 answer_length_lem l =
-    digits_length (ltb (number_of_address (address_verdict l)) 10) (48 + number_of_address (address_verdict l)) (48 + number_of_address (address_verdict l) / 10) (48 + number_of_address (address_verdict l) % 10)
+    digits_length (ltb (number_in (address_verdict l)) 10) (48 + number_in (address_verdict l)) (48 + number_in (address_verdict l) / 10) (48 + number_in (address_verdict l) % 10)

@@ -13,7 +13,10 @@ use borrow.Author.Tests.{lt-ltb, le-ltb, ltb-true}
 use Rattle.lines.specs.Lines.{answer_to}
 use Rattle.lines.specs.Feeding.{standing, full, kept_count, start, fed, fed_refused, finish_refused}
 use Rattle.lines.specs.Numbers.{number_of_fed, taken_of_fed, written_of_fed, len_of_fed}
-use Rattle.lines.specs.declared.Fed.TheVariants.{Took, Refused}
+use Rattle.std.specs.Prelude.{Ok, Err}
+use Rattle.numbers.specs.declared.Refusal.{Refusal}
+use Rattle.numbers.specs.Numbers.{number_of}
+use Rattle.lines.specs.Promises.{as_fed}
 use Rattle.lines.proofs.Steps.{stuck_none, stuck_first}
 use Rattle.lines.proofs.Machine.{said, last_said}
 use Rattle.lines.proofs.Whole.{wide_stuck, fits_taken, taken_fits}
@@ -73,11 +76,12 @@ finish_17_short line len out h = rw (lt-ltb (length line) 91 h)
 
 -- ---- document 01's answers as numbers: what each function tells, as a number and values
 
-pub took_as_numbers : (taken written len : ℕ) → let r = Took taken written len in
+pub took_as_numbers : (taken written len : ℕ) → let r = Ok (as_fed taken written len) in
     (number_of_fed r ≡ 0) × (taken_of_fed r ≡ taken) × (written_of_fed r ≡ written) × (len_of_fed r ≡ len)
-unfolding number_of_fed taken_of_fed written_of_fed len_of_fed
+unfolding taken_of_fed written_of_fed len_of_fed
 took_as_numbers taken written len = (refl, refl, refl, refl)
 
-pub refused_as_numbers : (n : ℕ) → (number_of_fed (Refused n) ≡ n) × (taken_of_fed (Refused n) ≡ 0) × (written_of_fed (Refused n) ≡ 0) × (len_of_fed (Refused n) ≡ 0)
-unfolding number_of_fed taken_of_fed written_of_fed len_of_fed
-refused_as_numbers n = (refl, refl, refl, refl)
+pub refused_as_numbers : (refusal : Refusal)
+    → (number_of_fed (Err refusal) ≡ number_of refusal) × (taken_of_fed (Err refusal) ≡ 0) × (written_of_fed (Err refusal) ≡ 0) × (len_of_fed (Err refusal) ≡ 0)
+unfolding taken_of_fed written_of_fed len_of_fed
+refused_as_numbers refusal = (refl, refl, refl, refl)

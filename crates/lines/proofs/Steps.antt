@@ -3,22 +3,23 @@
 use mathlib.Core.Path.{◌≡◌, refl, sym, ap, ◌∙◌, subst}
 use mathlib.Core.Bool.{Bool, true, false, ◌&&◌, false≢true}
 use mathlib.Core.List.{List, [], ◌∷◌, ◌++◌}
-use Prim.Native.Nat.{ℕ, suc, ◌+◌, ◌-◌, ◌/◌, ◌%◌, ◌≤◌, ◌<◌}
+use Prim.Native.Nat.{ℕ, ◌+◌, ◌-◌, ◌/◌, ◌%◌, ◌≤◌, ◌<◌}
 use native.Mathlib.Numerals.{add-one}
 use native.Mathlib.Omega.{arith}
 use lib.Dec.{eqb, ltb}
-use lib.ListN.{length, take, drop, set, get_or, drop_of_length-le}
+use lib.ListN.{length, take, drop, get_or, drop_of_length-le}
 use lib.Seq.{drop-cons, sets}
 use borrow.Author.Tests.{lt-ltb, le-ltb, eq-eqb, ne_eqb}
 use Rattle.laws.specs.Pick.{pick}
 use Rattle.answers.specs.Reading.{address_verdict}
-use Rattle.answers.specs.Numbers.{number_of_address}
-use Rattle.answers.specs.declared.Written.TheVariants as written
+use Rattle.numbers.specs.Numbers.{number_in}
+use Rattle.numbers.proofs.Numbers.{err_apart, ok_injective}
 use Rattle.lines.specs.Lines.{decimal, answer_to}
 use Rattle.lines.specs.Feeding.{Standing, standing, answered, kept, line_with, count_with, answer_length, full, passed, fed_from, kept_count, start, stuck, fed, fed_refused, finished, finish_refused}
-use Rattle.lines.specs.Promises.{progress, told, WentOn, WasFed, WasFinished}
-use Rattle.lines.specs.declared.Fed.TheVariants.{Took, Refused}
-use Rattle.lines.specs.declared.Progress.{Progress}
+use Rattle.lines.specs.Promises.{as_fed, told, WentOn, WasFed, WasFinished}
+use Rattle.lines.specs.declared.Fed.{Fed}
+use Rattle.numbers.specs.declared.Refusal.TheVariants.{RoomSmall}
+use Rattle.std.specs.Prelude.{Ok, Err}
 
 -- ---- digits
 
@@ -30,47 +31,20 @@ digits_length n = by (ltb n 10) (48 + n) (48 + n / 10) (48 + n % 10)
     by true x y z = refl
     by false x y z = refl
 
-pub answer_size : (l : List ℕ) → length (answer_to l) ≡ answer_length (number_of_address (address_verdict l))
+pub answer_size : (l : List ℕ) → length (answer_to l) ≡ answer_length (number_in (address_verdict l))
 unfolding answer_to
-answer_size l = digits_length (number_of_address (address_verdict l))
-
-pub short_number : (n : ℕ) → n < 10 → 2 ≡ answer_length n
-short_number n h = rw (lt-ltb n 10 h)
-
-pub long_number : (n : ℕ) → 10 ≤ n → 3 ≡ answer_length n
-long_number n h = rw (le-ltb n 10 h)
-
-pub one_digit : (n at : ℕ) (out : List ℕ) → n < 10
-    → (at + 2 ≡ at + length (decimal n ++ 10 ∷ [])) × (set (set out at (48 + n)) (at + 1) 10 ≡ sets out at (decimal n ++ 10 ∷ []))
-one_digit n at out h = rw (lt-ltb n 10 h, add-one at) (refl, refl)
-
-pub two_digits : (n at : ℕ) (out : List ℕ) → 10 ≤ n
-    → (at + 3 ≡ at + length (decimal n ++ 10 ∷ []))
-    × (set (set (set out at (48 + n / 10)) (at + 1) (48 + n % 10)) (at + 2) 10 ≡ sets out at (decimal n ++ 10 ∷ []))
-two_digits n at out h =
-    let e : at + 2 ≡ suc (suc at) = omega arith in
-    rw (le-ltb n 10 h, e, add-one at) (refl, refl)
+answer_size l = digits_length (number_in (address_verdict l))
 
 -- the digits of a line's number are its answer
-pub answer_put : (l out after : List ℕ) (at n r : ℕ) → n ≡ number_of_address (address_verdict l)
+pub answer_put : (l out after : List ℕ) (at n r : ℕ) → n ≡ number_in (address_verdict l)
     → (r ≡ at + length (decimal n ++ 10 ∷ [])) × (after ≡ sets out at (decimal n ++ 10 ∷ []))
     → (r ≡ at + length (answer_to l)) × (after ≡ sets out at (answer_to l))
 unfolding answer_to
 answer_put l out after at n r e h = subst (λ (m : ℕ). (r ≡ at + length (decimal m ++ 10 ∷ [])) × (after ≡ sets out at (decimal m ++ 10 ∷ []))) e h
 
 -- the code's test of the room
-pub length_told : (l : List ℕ) (n size : ℕ) → n ≡ number_of_address (address_verdict l) → size ≡ answer_length n → size ≡ length (answer_to l)
+pub length_told : (l : List ℕ) (n size : ℕ) → n ≡ number_in (address_verdict l) → size ≡ answer_length n → size ≡ length (answer_to l)
 length_told l n size e f = f ∙ ap answer_length e ∙ sym (answer_size l)
-
--- ---- a byte that is kept
-
-pub keep_one : (byte len : ℕ) (line : List ℕ) → len < 91 → (len + 1 ≡ count_with len) × (set line len byte ≡ line_with byte line len) × (len + 1 ≤ 91)
-unfolding count_with line_with
-keep_one byte len line h = rw (lt-ltb len 91 h) (refl, refl, omega arith)
-
-pub keep_none : (byte len : ℕ) (line : List ℕ) → 91 ≤ len → len ≤ 91 → (len ≡ count_with len) × (line ≡ line_with byte line len) × (len ≤ 91)
-unfolding count_with line_with
-keep_none byte len line h k = rw (le-ltb len 91 h) (refl, refl, k)
 
 -- ---- a turn of the loop: the work that is left gives what the whole gives
 
@@ -94,7 +68,7 @@ module _ (s line : List ℕ) (len : ℕ) (out : List ℕ) (written i : ℕ) (who
   answered_turned h e m = rw (next h, eq-eqb (get_or s i 0) 10 e, le-ltb (length out - written) (length (answer_to (take len line))) m)
 
   pub answered_turn : Left → i < length s → get_or s i 0 ≡ 10
-      → (n size : ℕ) → n ≡ number_of_address (address_verdict (take len line)) → size ≡ answer_length n → size ≤ length out - written
+      → (n size : ℕ) → n ≡ number_in (address_verdict (take len line)) → size ≡ answer_length n → size ≤ length out - written
       → (out' : List ℕ) (written' : ℕ) → (written' ≡ written + length (decimal n ++ 10 ∷ [])) × (out' ≡ sets out written (decimal n ++ 10 ∷ []))
       → fed_from (drop (i + 1) s) (standing (i + 1) line 0 out' written') ≡ whole
   answered_turn w h e n size a b m out' written' p =
@@ -106,7 +80,7 @@ module _ (s line : List ℕ) (len : ℕ) (out : List ℕ) (written i : ℕ) (who
   stopped_here h e m = rw (drop-cons s i 0 h, eq-eqb (get_or s i 0) 10 e, lt-ltb (length out - written) (length (answer_to (take len line))) m)
 
   pub stopped : Left → i < length s → get_or s i 0 ≡ 10
-      → (n size : ℕ) → n ≡ number_of_address (address_verdict (take len line)) → size ≡ answer_length n → length out - written < size
+      → (n size : ℕ) → n ≡ number_in (address_verdict (take len line)) → size ≡ answer_length n → length out - written < size
       → standing i line len out written ≡ whole
   stopped w h e n size a b m = stopped_here h e (omega (arith, length_told (take len line) n size a b)) ∙ w
 
@@ -114,23 +88,16 @@ module _ (s line : List ℕ) (len : ℕ) (out : List ℕ) (written i : ℕ) (who
   unfolding fed_from
   all_taken_here h = rw (drop_of_length-le s h)
 
-  pub all_taken : Left → length s ≤ i → standing i line len out written ≡ whole
-  all_taken w h = all_taken_here h ∙ w
+  pub all_taken : Left → length s ≤ i → i ≤ length s → standing (length s) line len out written ≡ whole
+  all_taken w h k = ap (λ (taken : ℕ). standing taken line len out written) (at_end (length s) i h k) ∙ all_taken_here h ∙ w
+    where
+      at_end : (m n : ℕ) → m ≤ n → n ≤ m → m ≡ n
+      at_end m n h k = omega arith
 
 pub went_here : (s line : List ℕ) (len : ℕ) (out : List ℕ) (written i : ℕ) (from : Standing) → standing i line len out written ≡ fed_from s from
     → WentOn s from (record { taken = i; written = written; len = len }) line out
 went_here s line len out written i from e =
-    record { answer = ap progress e; buffer = ap (λ (st : Standing). st.line) e; output = ap (λ (st : Standing). st.out) e }
-
--- ---- the count of kept bytes
-
-pub count_over : (len : ℕ) → 91 < len → 91 ≡ kept_count len
-unfolding kept_count
-count_over len h = rw (lt-ltb 91 len h)
-
-pub count_kept : (len : ℕ) → len ≤ 91 → len ≡ kept_count len
-unfolding kept_count
-count_kept len h = rw (le-ltb 91 len h)
+    record { answer = ap told e; buffer = ap (λ (st : Standing). st.line) e; output = ap (λ (st : Standing). st.out) e }
 
 -- ---- how feeding ends
 
@@ -206,7 +173,7 @@ length_zero [] z = refl
 length_zero (c ∷ s) z = absurd (omega arith)
 
 module _ (s line : List ℕ) (len : ℕ) (out : List ℕ) where
-  pub fed_short : length line < 91 → WasFed s line len out (Refused 17) line out
+  pub fed_short : length line < 91 → WasFed s line len out (Err RoomSmall) line out
   unfolding fed fed_refused start
   fed_short h = record { answer = rw (lt-ltb (length line) 91 h); buffer = rw (lt-ltb (length line) 91 h); output = rw (lt-ltb (length line) 91 h) }
 
@@ -219,7 +186,7 @@ module _ (s line : List ℕ) (len : ℕ) (out : List ℕ) where
     unfolding fed_refused start
     wide_refused = rw (le-ltb (length line) 91 h, e)
 
-    pub fed_empty : length s ≡ 0 → WasFed s line len out (Took 0 0 k) line out
+    pub fed_empty : length s ≡ 0 → WasFed s line len out (Ok (as_fed 0 0 k)) line out
     fed_empty z =
         let none : s ≡ [] = length_zero s z in
         let here : fed_from s (standing 0 line k out 0) ≡ standing 0 line k out 0 = rw (none, fed_none) in
@@ -227,41 +194,40 @@ module _ (s line : List ℕ) (len : ℕ) (out : List ℕ) where
         record { answer = rw (wide_refused, free, wide, here); buffer = rw (wide, here); output = rw (wide, here) }
 
     -- nothing of a piece that is not empty was taken: it is stuck, and all is as it was
-    pub fed_stuck : (p : Progress) (line' out' : List ℕ) → (length s ≡ 0 → ⊥) → WentOn s (standing 0 line k out 0) p line' out' → p.taken ≡ 0
-        → WasFed s line len out (Refused 17) line' out'
+    pub fed_stuck : (p : Fed) (line' out' : List ℕ) → (length s ≡ 0 → ⊥) → WentOn s (standing 0 line k out 0) p line' out' → p.taken ≡ 0
+        → WasFed s line len out (Err RoomSmall) line' out'
     fed_stuck p line' out' some w z =
         record {
-          answer = rw (wide_refused, taken_nothing s (standing 0 line k out 0) some (ap (λ (q : Progress). q.taken) (sym w.answer) ∙ z));
+          answer = rw (wide_refused, taken_nothing s (standing 0 line k out 0) some (ap (λ (q : Fed). q.taken) (sym w.answer) ∙ z));
           buffer = rw wide w.buffer;
           output = rw wide w.output;
         }
 
-    pub fed_on : (p : Progress) (line' out' : List ℕ) → WentOn s (standing 0 line k out 0) p line' out' → (p.taken ≡ 0 → ⊥)
-        → WasFed s line len out (Took p.taken p.written p.len) line' out'
+    pub fed_on : (p : Fed) (line' out' : List ℕ) → WentOn s (standing 0 line k out 0) p line' out' → (p.taken ≡ 0 → ⊥)
+        → WasFed s line len out (Ok p) line' out'
     fed_on p line' out' w z =
         record {
           answer =
-              rw (wide_refused, taken_something s (standing 0 line k out 0) (λ q. z (ap (λ (q : Progress). q.taken) w.answer ∙ q)), wide)
-              (ap (λ (q : Progress). Took q.taken q.written q.len) w.answer);
+              rw (wide_refused, taken_something s (standing 0 line k out 0) (λ q. z (ap (λ (q : Fed). q.taken) w.answer ∙ q)), wide)
+              (ap Ok w.answer);
           buffer = rw wide w.buffer;
           output = rw wide w.output;
         }
 
 -- what is told of a call that is not refused
-pub told_is : (b : Bool) (t w l : ℕ) (st : Standing) → Took t w l ≡ pick b (Refused 17) (told st)
-    → (b ≡ false) × (t ≡ st.taken) × (w ≡ st.written) × (l ≡ st.len)
-told_is true t w l st e = absurd (let z : ◌≡◌ {A = ℕ} 0 1 = cc in omega arith)
-told_is false t w l st e = (refl, cc, cc, cc)
+pub told_is : (b : Bool) (r : Fed) (st : Standing) → Ok r ≡ pick b (Err RoomSmall) (Ok (told st)) → (b ≡ false) × (r ≡ told st)
+told_is true r st e = absurd (err_apart r RoomSmall (sym e))
+told_is false r st e = (refl, ok_injective r (told st) e)
 
 -- ---- how finishing ends
 
 module _ (line : List ℕ) (len : ℕ) (out : List ℕ) where
-  pub finish_short : length line < 91 → WasFinished line len out (written.Refused 17) out
+  pub finish_short : length line < 91 → WasFinished line len out (Err RoomSmall) out
   unfolding finished finish_refused start
   finish_short h = record { answer = rw (lt-ltb (length line) 91 h); output = rw (lt-ltb (length line) 91 h) }
 
   module _ (k : ℕ) (e : k ≡ kept_count len) (h : 91 ≤ length line) where
-    pub finish_none : k ≡ 0 → WasFinished line len out (written.Accepted 0) out
+    pub finish_none : k ≡ 0 → WasFinished line len out (Ok 0) out
     unfolding finished finish_refused start
     finish_none z =
         let q = eq-eqb (kept_count len) 0 (sym e ∙ z) in
@@ -271,11 +237,11 @@ module _ (line : List ℕ) (len : ℕ) (out : List ℕ) where
       nonempty : eqb (kept_count len) 0 ≡ false
       nonempty = ne_eqb (kept_count len) 0 (λ (q : kept_count len ≡ 0). some (e ∙ q))
 
-      module _ (n size : ℕ) (told_number : n ≡ number_of_address (address_verdict (take k line))) (told_size : size ≡ answer_length n) where
+      module _ (n size : ℕ) (told_number : n ≡ number_in (address_verdict (take k line))) (told_size : size ≡ answer_length n) where
         needed : size ≡ length (answer_to (take (kept_count len) line))
         needed = rw e at (length_told (take k line) n size told_number told_size)
 
-        pub finish_full : length out < size → WasFinished line len out (written.Refused 17) out
+        pub finish_full : length out < size → WasFinished line len out (Err RoomSmall) out
         unfolding finished finish_refused start full
         finish_full m =
             let f = lt-ltb (length out - 0) (length (answer_to (take (kept_count len) line))) (omega (arith, needed)) in
@@ -283,7 +249,7 @@ module _ (line : List ℕ) (len : ℕ) (out : List ℕ) where
 
         pub finish_answered : size ≤ length out → (r : ℕ) (out' : List ℕ)
             → (r ≡ 0 + length (decimal n ++ 10 ∷ [])) × (out' ≡ sets out 0 (decimal n ++ 10 ∷ []))
-            → WasFinished line len out (written.Accepted r) out'
+            → WasFinished line len out (Ok r) out'
         unfolding finished finish_refused start full answered
         finish_answered m r out' p =
             let f = le-ltb (length out - 0) (length (answer_to (take (kept_count len) line))) (omega (arith, needed)) in

@@ -12,15 +12,17 @@ use lib.ListN.{length, take, drop, set, length-set, length-append}
 use lib.Seq.{sets, sets-eq, length-sets, take_at, take-suc-set, take_all, length-take-le}
 use borrow.Author.Tests.{lt-ltb, le-ltb, ltb-true, ltb-false, eqb-true}
 use Rattle.laws.specs.Pick.{pick}
-use Rattle.answers.specs.declared.Written.TheVariants as written
 use Rattle.lines.specs.Lines.{answer_to, output_of}
 use Rattle.lines.specs.Feeding.{Standing, standing, answered, kept, line_with, count_with, full, passed, fed_from, kept_count, start, stuck, fed, fed_refused, finished, finish_refused}
 use Rattle.lines.specs.Promises.{WasFed, WasFinished}
-use Rattle.lines.specs.declared.Fed.TheVariants.{Took}
+use Rattle.lines.specs.declared.Fed.{Fed}
+use Rattle.numbers.proofs.Numbers.{err_apart, ok_injective}
 use Rattle.lines.specs.Calls.{Call, outcome, taken_in, written_out}
 use Rattle.lines.proofs.Steps.{fed_none, fed_kept, fed_answered, fed_stopped, moves, told_is}
 use Rattle.lines.proofs.Cut.{answer_length_lem}
 use Rattle.lines.proofs.Machine.{kept_with, kept_after, said, last_said, kept_joined, said_joined, all_said}
+use Rattle.numbers.specs.declared.Refusal.TheVariants.{RoomSmall}
+use Rattle.std.specs.Prelude.{Ok, Err}
 
 -- the bytes of the present line that are kept, and the bytes written
 abbrev present : Standing → List ℕ
@@ -193,14 +195,14 @@ unfolding fed_refused start kept_count
 wide_stuck s line len out f w = rw (le-ltb (length line) 91 w, le-ltb 91 len f)
 
 -- what a caller needs of the numbers that a call tells: they lie within its slices, and there is progress
-pub feed_numbers : (s line : List ℕ) (len : ℕ) (out : List ℕ) (t w l : ℕ) (line' out' : List ℕ) → WasFed s line len out (Took t w l) line' out'
-    → len ≤ 91 → 91 ≤ length line → (t ≤ length s) × (w ≤ length out') × (l ≤ 91) × (0 < length s → 0 < t)
-feed_numbers s line len out t w l line' out' p f m =
+pub feed_numbers : (s line : List ℕ) (len : ℕ) (out : List ℕ) (r : Fed) (line' out' : List ℕ) → WasFed s line len out (Ok r) line' out'
+    → len ≤ 91 → 91 ≤ length line → (r.taken ≤ length s) × (r.written ≤ length out') × (r.len ≤ 91) × (0 < length s → 0 < r.taken)
+feed_numbers s line len out r line' out' p f m =
     let g : Ran s (standing 0 line len out 0) (fed s line len out) = ran_call s line len out f m in
-    let q = told_is (fed_refused s line len out) t w l (fed s line len out) p.answer in (
+    let q = told_is (fed_refused s line len out) r (fed s line len out) p.answer in (
       rw q.1 (omega (arith, g.count, g.bound)),
-      rw (q.2, p.output) g.sound.within,
-      rw q.3 g.sound.few,
+      rw (q.1, p.output) g.sound.within,
+      rw q.1 g.sound.few,
       λ (h : 0 < length s). rw (q.1, fed_is s line len out f m) (moves s (standing 0 line len out 0) (sym (wide_stuck s line len out f m) ∙ q.0) h),
     )
 
@@ -226,11 +228,11 @@ finished_bound line len room f w m false e =
     let z : length (sets room 0 (answer_to (take len line))) ≡ length room = length-sets room 0 (answer_to (take len line)) in
     rw (le-ltb (length line) 91 w, le-ltb 91 len f, e, n) (omega arith)
 
-finish_told : (b : Bool) (n m : ℕ) → written.Accepted n ≡ pick b (written.Refused 17) (written.Accepted m) → (b ≡ false) × (n ≡ m)
-finish_told true n m e = absurd (let z : ◌≡◌ {A = ℕ} 0 1 = cc in omega arith)
-finish_told false n m e = (refl, cc)
+finish_told : (b : Bool) (n m : ℕ) → Ok n ≡ pick b (Err RoomSmall) (Ok m) → (b ≡ false) × (n ≡ m)
+finish_told true n m e = absurd (err_apart n RoomSmall (sym e))
+finish_told false n m e = (refl, ok_injective n m e)
 
-pub finish_numbers : (line : List ℕ) (len : ℕ) (out : List ℕ) (n : ℕ) (out' : List ℕ) → WasFinished line len out (written.Accepted n) out'
+pub finish_numbers : (line : List ℕ) (len : ℕ) (out : List ℕ) (n : ℕ) (out' : List ℕ) → WasFinished line len out (Ok n) out'
     → len ≤ 91 → 91 ≤ length line → n ≤ length out'
 finish_numbers line len out n out' p f w =
     let q = finish_told (finish_refused line len out) n (finished line len out).written p.answer in

@@ -6,159 +6,134 @@
 ghost use Rattle.std.specs.Prelude.{◌≡◌, ◌+◌, ◌≤◌, length, take, [], ◌∷◌, ◌++◌};
 ghost use Rattle.std.proofs.lemmas.List.Edits.{sets};
 ghost use Rattle.answers.specs.Reading.{address_verdict};
-ghost use Rattle.answers.specs.Numbers.{number_of_address};
+ghost use Rattle.numbers.specs.Numbers.{number_in};
 ghost use Rattle.lines.specs.Lines.{decimal};
 ghost use Rattle.lines.specs.Feeding.{kept_count, count_with, line_with, standing, answer_length};
 ghost use Rattle.lines.specs.Promises.{WasFed, WasFinished, WentOn};
 
-use answers::{Address, Written};
-use numbers::ROOM_SMALL;
+use numbers::Refusal;
 
 // A line's bytes are kept up to this count: so many are too long for an address already.
 pub const KEPT: usize = 91;
 
 const LINE_END: u8 = b'\n';
 
-// What is known of a line that is not ended yet: how many of its bytes stand at the front of the line buffer. 0 at the start of the input.
+// What is known of a line that is not ended yet: how many of its bytes stand at the front of the line buffer. 0 at the start of the input. The buffer
+// is no part of it: firmware lends one to each call, and keeps this count alone between calls.
 #[derive(Clone, Copy)]
 pub struct Line {
     pub len: usize,
 }
 
-// What comes of a piece: how many of its bytes were taken, how many bytes of the output are written, and the count for the next call; or the
-// number 17, and nothing was taken or written.
+// What comes of a piece: how many of its bytes were taken, how many bytes of the output are written, and the count for the next call.
 #[derive(Clone, Copy)]
-pub enum Fed {
-    Took {
-        taken: usize,
-        written: usize,
-        len: usize,
-    },
-    Refused(u8),
-}
-
-// How far the bytes of a piece were taken.
-#[derive(Clone, Copy)]
-struct Progress {
-    taken: usize,
-    written: usize,
-    len: usize,
+pub struct Fed {
+    pub taken: usize,
+    pub written: usize,
+    pub len: usize,
 }
 
 // Takes a piece of the input and writes the answers of the lines that end in it. It stops early only at a line end whose answer the output
 // has no room for: then the caller empties the output and comes back with the rest. It refuses with 17 if the line buffer is under 91 bytes,
-// or if the very first byte is such a line end; so a call that is not refused takes something of a piece that is not empty.
-pub fn feed(input: &[u8], line: &mut [u8], state: Line, out: &mut [u8]) -> Fed
+// or if the very first byte is such a line end, and nothing is taken or written then; so a call that is not refused takes something of a piece
+// that is not empty.
+pub fn feed(input: &[u8], line: &mut [u8], state: Line, out: &mut [u8]) -> Result<Fed, Refusal>
     ensures { WasFed input.now line.old state.len out.old result line.new out.new }
 {
-    let len = kept_count(state.len);
     if line.len() < KEPT {
-        return Fed::Refused(ROOM_SMALL);
+        return Err(Refusal::RoomSmall);
     }
-    if input.len() == 0 {
-        return Fed::Took {
+    let len = kept_count(state.len);
+    if input.is_empty() {
+        return Ok(Fed {
             taken: 0,
             written: 0,
             len,
-        };
+        });
     }
-    let progress = take_bytes(input, line, len, out);
-    if progress.taken == 0 {
-        return Fed::Refused(ROOM_SMALL);
+    let fed = take_bytes(input, line, len, out);
+    if fed.taken == 0 {
+        return Err(Refusal::RoomSmall);
     }
-    Fed::Took {
-        taken: progress.taken,
-        written: progress.written,
-        len: progress.len,
-    }
+    Ok(fed)
 }
 
 // The end of the input: a last line with no line end is answered, and how many bytes that is comes back; 0 if there is no such line. It refuses
 // with 17 if the line buffer is under 91 bytes, or the output has no room for the answer: then the caller empties it and comes back.
-pub fn finish(line: &[u8], state: Line, out: &mut [u8]) -> Written
+pub fn finish(line: &[u8], state: Line, out: &mut [u8]) -> Result<usize, Refusal>
     ensures { WasFinished line.now state.len out.old result out.new }
 {
-    let len = kept_count(state.len);
     if line.len() < KEPT {
-        return Written::Refused(ROOM_SMALL);
+        return Err(Refusal::RoomSmall);
     }
+    let len = kept_count(state.len);
     if len == 0 {
-        return Written::Accepted(0);
+        return Ok(0);
     }
     let number = number_of_line(line, len);
     if out.len() < answer_length(number) {
-        return Written::Refused(ROOM_SMALL);
+        return Err(Refusal::RoomSmall);
     }
-    Written::Accepted(put(number, out, 0))
+    Ok(put(number, out, 0))
 }
 
+#[tactic(auto, unfolding(crate::specs::Feeding::kept_count))]
 fn kept_count(len: usize) -> usize
     ensures value { result ≡ kept_count len }
     ensures upper_bound { result ≤ 91 }
 {
-    if KEPT < len { KEPT } else { len }
+    len.min(KEPT)
 }
 
 // Byte by byte: a line end is answered, any other byte is kept.
-fn take_bytes(input: &[u8], line: &mut [u8], kept: usize, out: &mut [u8]) -> Progress
+fn take_bytes(input: &[u8], line: &mut [u8], kept: usize, out: &mut [u8]) -> Fed
     requires { (91 ≤ length line.old) × (kept ≤ 91) }
     ensures { WentOn input.now (standing 0 line.old kept out.old 0) result line.new out.new }
 {
     let mut len = kept;
     let mut written = 0;
-    let mut i = 0;
-    while i < input.len() {
-        let byte = input[i];
+    for (taken, &byte) in input.iter().enumerate() {
         if byte != LINE_END {
             len = keep(byte, line, len);
-            i += 1;
             continue;
         }
         let number = number_of_line(line, len);
         if out.len() - written < answer_length(number) {
-            return Progress {
-                taken: i,
+            return Fed {
+                taken,
                 written,
                 len,
             };
         }
         written = put(number, out, written);
         len = 0;
-        i += 1;
     }
-    Progress {
-        taken: i,
+    Fed {
+        taken: input.len(),
         written,
         len,
     }
 }
 
+// A byte behind the kept ones, while there are fewer than enough.
+#[tactic(auto, unfolding(crate::specs::Feeding::count_with, crate::specs::Feeding::line_with))]
 fn keep(byte: u8, line: &mut [u8], len: usize) -> usize
     requires { (91 ≤ length line.old) × (len ≤ 91) }
     ensures { (result ≡ count_with len) × (line.new ≡ line_with byte line.old len) × (result ≤ 91) }
 {
-    if len < KEPT {
-        line[len] = byte;
-        return len + 1;
+    if KEPT <= len {
+        return len;
     }
-    len
+    line[len] = byte;
+    len + 1
 }
 
 // The number of the address that the kept bytes are.
 fn number_of_line(line: &[u8], len: usize) -> u8
     requires { len ≤ length line.now }
-    ensures { result ≡ number_of_address (address_verdict (take len line.now)) }
+    ensures { result ≡ number_in (address_verdict (take len line.now)) }
 {
-    number_of(decode::check_address(&line[..len]))
-}
-
-fn number_of(address: Address) -> u8
-    ensures { result ≡ number_of_address address }
-{
-    match address {
-        Address::Accepted(_, _) => 0,
-        Address::Refused(number) => number,
-    }
+    numbers::number_in(decode::check_address(&line[..len]))
 }
 
 // One digit or two, and a line end.
@@ -171,7 +146,8 @@ fn answer_length(number: u8) -> usize
     3
 }
 
-// A number in decimal, and a line end, at this place of the output; what comes back is the place after it.
+// A number in decimal, and a line end, at this place of the output; what comes back is the place after it. By hand: of two digits at most
+// itoa is no plainer, with a buffer of its own, a copy out of it, and a bound on the number to be shown.
 fn put(number: u8, out: &mut [u8], at: usize) -> usize
     requires { at + answer_length number ≤ length out.old }
     ensures { (result ≡ at + length (decimal number ++ 10 ∷ [])) × (out.new ≡ sets out.old at (decimal number ++ 10 ∷ [])) }

@@ -2,7 +2,8 @@
 #![tactic(auto)]
 
 ghost use Rattle.std.specs.Prelude.{◌≡◌};
-ghost use Rattle.numbers.specs.Numbers.{number_of, number_in};
+ghost use Rattle.numbers.specs.Numbers.{number_of};
+ghost use Rattle.numbers.specs.Promises.{NumberGiven};
 
 pub const ACCEPTED: u8 = 0;
 
@@ -50,7 +51,7 @@ impl From<Refusal> for u8 {
 
 // An answer as one number, whatever it gives where it accepts.
 pub fn number_in<T: Copy>(answer: Result<T, Refusal>) -> u8
-    ensures { result ≡ number_in answer }
+    ensures { NumberGiven answer result }
 {
     match answer {
         Ok(_) => ACCEPTED,

@@ -2,18 +2,21 @@
 // come is in the file stdout, which the Rust wrote (tests/oracle/PORTS.md).
 #![tactic(auto)]
 
-ghost use Rattle.std.specs.Prelude.{◌<◌, ◌≤◌, length};
+ghost use Rattle.std.specs.Prelude.{◌<◌, ◌≤◌, length, IfSome};
 
-use answers::{Verdict, Written};
 use checksum::Checksum;
-use hrp::{Network, Order};
-use iter::{ByteStep, BytesToSymbols, SymbolStep, SymbolsToBytes};
+use hrp::Network;
+use iter::{BytesToSymbols, SymbolsToBytes};
+use numbers::Refusal;
+use std::cmp::Ordering;
+use std::fmt::Display;
 use std::io::Read;
 
 // What lent room, 64 bytes, holds before.
 const MARK: u8 = 170;
 
 fn main(rt: HostRuntime) {
+    // Fixed memory: so many bytes of the file are looked at, and nothing here stands on an allocator.
     let mut buffer = [0u8; 65536];
     let n = read_full(&rt, &mut buffer);
     replay(&rt, &buffer[..n]);
@@ -37,44 +40,39 @@ fn read_full(rt: &impl Input, buffer: &mut [u8]) -> usize
     done
 }
 
+// A kind, a number, and two strings.
+#[derive(Clone, Copy)]
+struct Case<'a> {
+    kind: u8,
+    number: u8,
+    a: &'a [u8],
+    b: &'a [u8],
+}
+
 fn replay(rt: &impl Print, cases: &[u8]) {
-    let mut at = 0;
-    while at < cases.len() {
-        let taken = replay_first(rt, &cases[at..]);
-        if taken == 0 {
-            return;
-        }
-        if cases.len() - at < taken {
-            return;
-        }
-        at += taken;
+    let mut rest = cases;
+    while let Some((case, after)) = first_case(rest) {
+        run(rt, case);
+        rest = after;
     }
 }
 
-// The first case: its kind, a number, the lengths of two strings in two bytes each, and the strings. How many bytes it takes, and 0 if it is
+// The first case, and what stands after it: its kind, its number, the lengths of its strings in two bytes each, and the strings. None where it is
 // not whole.
-fn replay_first(rt: &impl Print, s: &[u8]) -> usize {
-    if s.len() < 6 {
-        return 0;
-    }
-    let middle = 6 + length(s[2], s[3]);
-    let end = middle + length(s[4], s[5]);
-    if s.len() < end {
-        return 0;
-    }
-    run(rt, s[0], s[1], &s[6..middle], &s[middle..end]);
-    end
-}
-
-fn length(low: u8, high: u8) -> usize
-    ensures { result < 65536 }
+fn first_case(s: &[u8]) -> Option<(Case<'_>, &[u8])>
+    ensures { IfSome result (λ x. length x.1.now < length s.now) }
 {
-    low as usize + 256 * (high as usize)
+    let (head, strings) = s.split_first_chunk::<6>()?;
+    let [kind, number, a_low, a_high, b_low, b_high] = *head;
+    let (a, strings) = strings.split_at_checked(u16::from_le_bytes([a_low, a_high]) as usize)?;
+    let (b, after) = strings.split_at_checked(u16::from_le_bytes([b_low, b_high]) as usize)?;
+    Some((Case { kind, number, a, b }, after))
 }
 
-fn run(rt: &impl Print, kind: u8, number: u8, a: &[u8], b: &[u8]) {
-    byte(rt, kind);
-    decimal(rt, number as u64);
+fn run(rt: &impl Print, case: Case<'_>) {
+    let Case { kind, number, a, b } = case;
+    let _ = rt.write_all(&[kind]);
+    value(rt, number);
     hex(rt, a);
     hex(rt, b);
     match kind {
@@ -86,7 +84,7 @@ fn run(rt: &impl Print, kind: u8, number: u8, a: &[u8], b: &[u8]) {
         b'p' => compare(rt, a, b),
         _ => regroup(rt, a, b),
     }
-    byte(rt, b'\n');
+    let _ = println!(rt);
 }
 
 // ---- decode
@@ -115,109 +113,63 @@ fn write(rt: &impl Print, version: u8, prefix: &[u8], bytes: &[u8]) {
 // ---- hrp
 
 fn compare(rt: &impl Print, a: &[u8], b: &[u8]) {
-    order(rt, hrp::compare(a, b));
-    decimal(rt, hrp::same(a, b) as u64);
-    network(rt, hrp::network_of(a));
-    decimal(rt, hrp::is_valid_segwit(a) as u64);
+    value(rt, order_number(hrp::compare(a, b)));
+    value(rt, u8::from(hrp::same(a, b)));
+    value(rt, network_number(hrp::network_of(a)));
+    value(rt, u8::from(hrp::is_valid_segwit(a)));
 }
 
-fn order(rt: &impl Print, answer: Order) {
-    match answer {
-        Order::Less => decimal(rt, 0),
-        Order::Equal => decimal(rt, 1),
-        Order::Greater => decimal(rt, 2),
+fn order_number(order: Ordering) -> u8 {
+    match order {
+        Ordering::Less => 0,
+        Ordering::Equal => 1,
+        Ordering::Greater => 2,
     }
 }
 
-fn network(rt: &impl Print, answer: Network) {
-    match answer {
-        Network::Mainnet => decimal(rt, 0),
-        Network::Testnet => decimal(rt, 1),
-        Network::Regtest => decimal(rt, 2),
-        Network::Unknown => decimal(rt, 3),
+fn network_number(network: Option<Network>) -> u8 {
+    match network {
+        Some(Network::Mainnet) => 0,
+        Some(Network::Testnet) => 1,
+        Some(Network::Regtest) => 2,
+        None => 3,
     }
 }
 
 // ---- iter
 
 fn regroup(rt: &impl Print, symbols: &[u8], bytes: &[u8]) {
-    verdict(rt, iter::padding(symbols));
+    value(rt, numbers::number_in(iter::padding(symbols)));
     let mut out = [MARK; 64];
     written(rt, iter::symbols_to_bytes(symbols, &mut out));
     hex(rt, &out);
-    walk_symbols(rt, symbols);
-    walk_bytes(rt, bytes);
+    walk(rt, SymbolsToBytes::new(symbols));
+    walk(rt, BytesToSymbols::new(bytes));
 }
 
-fn walk_symbols(rt: &impl Print, symbols: &[u8]) {
-    let mut walk = SymbolsToBytes::new();
-    let mut i = 0usize;
-    while i < 256 {
-        let step = walk.next(symbols);
-        let ByteStep::Byte(given, after) = step else {
-            return;
-        };
-        decimal(rt, given as u64);
-        walk = after;
-        i += 1;
-    }
-}
-
-fn walk_bytes(rt: &impl Print, bytes: &[u8]) {
-    let mut walk = BytesToSymbols::new();
-    let mut i = 0usize;
-    while i < 256 {
-        let step = walk.next(bytes);
-        let SymbolStep::Symbol(given, after) = step else {
-            return;
-        };
-        decimal(rt, given as u64);
-        walk = after;
-        i += 1;
+fn walk<I: Iterator<Item = u8>>(rt: &impl Print, values: I)
+    requires { I.can_next values }
+{
+    for given in values.take(256) {
+        value(rt, given);
     }
 }
 
 // ---- what is printed
 
 // The number, 0 for accepted, and the length.
-fn written(rt: &impl Print, answer: Written) {
-    match answer {
-        Written::Accepted(n) => {
-            decimal(rt, 0);
-            decimal(rt, n as u64);
-        }
-        Written::Refused(number) => {
-            decimal(rt, number as u64);
-            decimal(rt, 0);
-        }
-    }
+fn written(rt: &impl Print, answer: Result<usize, Refusal>) {
+    value(rt, numbers::number_in(answer));
+    value(rt, answer.unwrap_or(0));
 }
 
-fn verdict(rt: &impl Print, answer: Verdict) {
-    match answer {
-        Verdict::Accepted => decimal(rt, 0),
-        Verdict::Refused(number) => decimal(rt, number as u64),
-    }
+fn value(rt: &impl Print, value: impl Display + Copy) {
+    let _ = print!(rt; " {value}");
 }
 
 fn hex(rt: &impl Print, bytes: &[u8]) {
-    byte(rt, b' ');
-    let mut i = 0;
-    while i < bytes.len() {
-        hex_byte(rt, bytes[i]);
-        i += 1;
+    let _ = print!(rt; " ");
+    for b in bytes {
+        let _ = print!(rt; "{b:02x}");
     }
-}
-
-fn hex_byte(rt: &impl Print, b: u8) {
-    let _ = print!(rt; "{b:02x}");
-}
-
-fn decimal(rt: &impl Print, n: u64) {
-    byte(rt, b' ');
-    let _ = print!(rt; "{n}");
-}
-
-fn byte(rt: &impl Print, b: u8) {
-    let _ = rt.write_all(&[b]);
 }

@@ -4,7 +4,7 @@ use mathlib.Core.Path.{◌≡◌, refl, sym, ap, subst, ◌∙◌}
 use mathlib.Core.List.{List, [], ◌∷◌}
 use Prim.Native.Nat.{ℕ, zero, suc, ◌-◌, ◌≤◌}
 use native.Mathlib.Omega.{arith}
-use lib.ListN.{length, take, drop}
+use lib.ListN.{length, take, drop, get_or}
 use Rattle.laws.specs.Xor.{◌⊕◌}
 use Rattle.laws.proofs.Bools.{same}
 use Rattle.laws.proofs.Xor.{zero_⊕}
@@ -12,7 +12,7 @@ use Rattle.paper.specs.Checksum.{polymod}
 use Rattle.detection.proofs.Places.{zero_step}
 use Rattle.search.specs.declared.Change.{Change}
 use Rattle.search.specs.declared.Pattern.{Pattern}
-use Rattle.search.specs.Patterns.{change, changes_of, pattern_of, Falling, described}
+use Rattle.search.specs.Patterns.{change, unused, changes_of, pattern_of, Falling, described}
 use Rattle.search.specs.Steps.{steps_to}
 use Rattle.search.specs.Walk.{Reaches, NotBefore}
 use Rattle.search.specs.Promises.{Candidate, steps_at}
@@ -20,9 +20,10 @@ use Rattle.search.proofs.Changes.{take_in, described_weight}
 use Rattle.search.proofs.Turns.{zeros_miss}
 use Rattle.search.proofs.First.{Once, once}
 
-headed : (k : ℕ) (c : Change) (cs : List Change) → 1 ≤ length (take k (c ∷ cs)) → take k (c ∷ cs) ≡ c ∷ drop 1 (take k (c ∷ cs))
-headed zero c cs h = absurd (omega arith)
-headed (suc k) c cs h = refl
+headed : (k : ℕ) (cs : List Change) → 1 ≤ length (take k cs) → take k cs ≡ get_or cs 0 unused ∷ drop 1 (take k cs)
+headed zero cs h = absurd (omega arith)
+headed (suc k) [] h = absurd (omega arith)
+headed (suc k) (c ∷ cs) h = refl
 
 module _ (window : ℕ) (inside : 1 ≤ window) where
   -- 1 is taken in at the highest place
@@ -69,7 +70,7 @@ module _ (window : ℕ) (inside : 1 ≤ window) where
         let some : 1 ≤ length (changes_of p)
         = omega (arith, described_weight window (changes_of p) candidate.falling, candidate.passes.some_change) in
         from (drop 1 (changes_of p))
-        (headed p.count p.first (p.second ∷ p.third ∷ p.fourth ∷ []) some ∙ ap (λ (c : Change). c ∷ drop 1 (changes_of p)) candidate.highest)
+        (headed p.count p.changes some ∙ ap (λ (c : Change). c ∷ drop 1 (changes_of p)) candidate.highest)
 
     pub not_before : (n : ℕ) → NotBefore 3 1 (window - 1) 0 n → n ≤ steps_at window p
     not_before n first = omega (arith, first below.next below.rest below.reaches, steps_below p below)

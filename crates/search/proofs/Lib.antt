@@ -7,7 +7,7 @@ pub mod Turns
 pub mod Symbols
 pub mod First
 pub mod Candidates
-pub mod Outcome
+pub mod Ran
 pub mod Consequences
 pub mod Fixed
 pub mod Wrong

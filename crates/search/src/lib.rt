@@ -5,11 +5,12 @@
 ghost use Rattle.std.specs.Prelude.{◌≡◌, [], ◌∷◌, ◌≤◌, length, replicate};
 ghost use Rattle.paper.specs.Checksum.{step};
 ghost use Rattle.search.specs.Patterns.{change, pattern_of};
-ghost use Rattle.search.specs.Walk.{WalkAsked, Walked, TryAsked, Tried, in_front};
+ghost use Rattle.search.specs.Walk.{WalkAsked, Walked, TryAsked, Tried, Spent, in_front};
+ghost use Rattle.search.specs.Outcome.{outcome};
 ghost use Rattle.search.specs.Promises.{Searched};
 
 use checksum::Engine;
-use numbers::{BUDGET_SPENT, SCRATCH_SMALL, WINDOW_OUTSIDE};
+use numbers::Refusal;
 
 const LARGEST_WINDOW: usize = 128;
 
@@ -25,118 +26,123 @@ pub struct Change {
     pub symbol: u8,
 }
 
-// Changes of 1 to 4 symbols, the highest place first, and how many they are.
+// Changes of 1 to 4 symbols, the highest place first, and how many they are. An array with its length beside it: there is no heap here.
 #[derive(Clone, Copy)]
 pub struct Pattern {
     pub count: u8,
-    pub first: Change,
-    pub second: Change,
-    pub third: Change,
-    pub fourth: Change,
+    pub changes: [Change; 4],
 }
 
 // What a search comes to, and the steps that it used: a pattern, or that there is none, or a refusal.
 #[derive(Clone, Copy)]
-pub enum Found {
-    Shown(Pattern, u64),
-    None(u64),
-    Refused(u8, u64),
+pub struct Outcome {
+    pub found: Result<Option<Pattern>, Refusal>,
+    pub steps: u64,
+}
+
+// The steps that a search has used, of those that it may.
+#[derive(Drop)]
+struct Steps {
+    used: u64,
+    budget: u64,
+    ghost within: { used ≤ budget },
+}
+
+impl Steps {
+    fn spend(&mut self) -> Result<(), Refusal>
+        ensures spent { Spent self.old.used self.old.budget result self.new.used }
+        ensures same_budget { self.new.budget ≡ self.old.budget }
+    {
+        if self.budget <= self.used {
+            return Err(Refusal::BudgetSpent);
+        }
+        self.used += 1;
+        Ok(())
+    }
+}
+
+pub fn search(window: usize, scratch: &mut [u32], budget: u64) -> Outcome
+    ensures { Searched window scratch.old budget result scratch.new }
+{
+    let mut steps = Steps { used: 0, budget };
+    let found = search_counted(window, scratch, &mut steps);
+    Outcome {
+        found,
+        steps: steps.used,
+    }
 }
 
 // A pattern that passes, moved up to the highest place and scaled, still passes: so the walk starts with 1 at that place.
-pub fn search(window: usize, scratch: &mut [u32], budget: u64) -> Found
-    ensures { Searched window scratch.old budget result scratch.new }
+fn search_counted(
+    window: usize,
+    scratch: &mut [u32],
+    steps: &mut Steps,
+) -> Result<Option<Pattern>, Refusal>
+    requires { steps.old.used ≡ 0 }
+    ensures { Searched window scratch.old steps.old.budget (outcome result steps.new.used) scratch.new }
 {
-    if window == 0 {
-        return Found::Refused(WINDOW_OUTSIDE, 0);
-    }
-    if LARGEST_WINDOW < window {
-        return Found::Refused(WINDOW_OUTSIDE, 0);
+    if window == 0 || LARGEST_WINDOW < window {
+        return Err(Refusal::WindowOutside);
     }
     if scratch.len() < SCRATCH_WORDS {
-        return Found::Refused(SCRATCH_SMALL, 0);
+        return Err(Refusal::ScratchSmall);
     }
-    wipe(scratch);
+    scratch.fill(0);
     let highest = (window - 1) as u8;
-    let found = walk(CHANGES_BELOW, 1, highest, 0, budget);
-    let Found::Shown(rest, steps) = found else {
-        return found;
+    let Some(rest) = walk(CHANGES_BELOW, 1, highest, steps)? else {
+        return Ok(None);
     };
     let top = Change {
         place: highest,
         symbol: 1,
     };
-    Found::Shown(in_front(top, rest), steps)
-}
-
-fn wipe(scratch: &mut [u32])
-    ensures { scratch.new ≡ replicate (length scratch.old) 0 }
-{
-    let mut i = 0;
-    while i < scratch.len() {
-        scratch[i] = 0;
-        i += 1;
-    }
+    Ok(Some(in_front(top, rest)))
 }
 
 // At most `changes` nonzero symbols at the places below `places` that bring a residue to zero. The last of them is read off: once a zero
 // is taken in, the residue is below 32 exactly if it is itself the symbol that is wanted.
 #[cycle(try_symbols_walk)]
-fn walk(changes: u8, start: u32, places: u8, used: u64, budget: u64) -> Found
-    requires { WalkAsked changes start used budget }
-    ensures { Walked changes start places used budget result }
+fn walk(changes: u8, start: u32, places: u8, steps: &mut Steps) -> Result<Option<Pattern>, Refusal>
+    requires { WalkAsked changes start }
+    ensures walked { Walked changes start places steps.old.used steps.old.budget result steps.new.used }
+    ensures same_budget { steps.new.budget ≡ steps.old.budget }
 {
     let mut residue = start;
-    let mut place = places;
-    let mut steps = used;
-    let found = 'places: loop {
-        if place == 0 {
-            break 'places Found::None(steps);
-        }
-        if budget <= steps {
-            break 'places Found::Refused(BUDGET_SPENT, steps);
-        }
-        place -= 1;
+    'places: for place in (0..places).rev() {
+        steps.spend()?;
         residue = step_zero(residue);
-        steps += 1;
         if residue < 32 {
-            break 'places Found::Shown(single(place, residue as u8), steps);
+            return Ok(Some(single(place, residue as u8)));
         }
-        let tried = try_symbols(changes - 1, residue, place, steps, budget);
-        let Found::None(taken) = tried else {
-            break 'places tried;
-        };
-        steps = taken;
-    };
-    found
+        // The last change was just looked for.
+        if changes == 1 {
+            continue 'places;
+        }
+        if let Some(pattern) = try_symbols(changes - 1, residue, place, steps)? {
+            return Ok(Some(pattern));
+        }
+    }
+    Ok(None)
 }
 
 // Each nonzero symbol at a place, followed by at most `changes` more below it.
 #[cycle(try_symbols_walk)]
-fn try_symbols(changes: u8, residue: u32, place: u8, used: u64, budget: u64) -> Found
-    requires { TryAsked changes residue used budget }
-    ensures { Tried changes residue place used budget result }
+fn try_symbols(
+    changes: u8,
+    residue: u32,
+    place: u8,
+    steps: &mut Steps,
+) -> Result<Option<Pattern>, Refusal>
+    requires { TryAsked changes residue }
+    ensures tried { Tried changes residue place steps.old.used steps.old.budget result steps.new.used }
+    ensures same_budget { steps.new.budget ≡ steps.old.budget }
 {
-    if changes == 0 {
-        return Found::None(used);
-    }
-    let mut steps = used;
-    let mut symbol: u8 = 1;
-    while symbol < 32 {
-        match walk(changes, residue ^ (symbol as u32), place, steps, budget) {
-            Found::None(taken) => {
-                steps = taken;
-            }
-            Found::Shown(rest, taken) => {
-                return Found::Shown(in_front(Change { place, symbol }, rest), taken);
-            }
-            Found::Refused(number, taken) => {
-                return Found::Refused(number, taken);
-            }
+    for symbol in 1..32u8 {
+        if let Some(rest) = walk(changes, residue ^ (symbol as u32), place, steps)? {
+            return Ok(Some(in_front(Change { place, symbol }, rest)));
         }
-        symbol += 1;
     }
-    Found::None(steps)
+    Ok(None)
 }
 
 // The checksum's step with the symbol 0.
@@ -156,10 +162,7 @@ fn single(place: u8, symbol: u8) -> Pattern
     };
     Pattern {
         count: 1,
-        first: Change { place, symbol },
-        second: unused,
-        third: unused,
-        fourth: unused,
+        changes: [Change { place, symbol }, unused, unused, unused],
     }
 }
 
@@ -167,14 +170,9 @@ fn in_front(change: Change, rest: Pattern) -> Pattern
     requires { rest.count ≤ 3 }
     ensures { result ≡ in_front change rest }
 {
-    let second = rest.first;
-    let third = rest.second;
-    let fourth = rest.third;
+    let [first, second, third, _] = rest.changes;
     Pattern {
         count: rest.count + 1,
-        first: change,
-        second,
-        third,
-        fourth,
+        changes: [change, first, second, third],
     }
 }

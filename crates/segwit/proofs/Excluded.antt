@@ -1,39 +1,38 @@
 -- Wrong answers that the promises rule out, each on a concrete input.
-use mathlib.Core.Path.{◌≡◌, ap}
-use Prim.Native.Nat.{ℕ}
-use native.Mathlib.Omega.{arith}
-use Rattle.answers.specs.Numbers.{number_of_verdict}
+use mathlib.Core.Path.{sym}
+use Rattle.numbers.proofs.Numbers.{err_apart}
 use Rattle.answers.specs.Rules.{version_verdict, length_verdict}
-use Rattle.answers.specs.declared.Verdict.TheVariants.{Accepted, Refused}
 use Rattle.segwit.specs.Promises.{VersionChecked, ProgramLengthChecked}
+use Rattle.numbers.specs.declared.Refusal.TheVariants.{VersionUnknown, ProgramLength, ProgramLengthVersion0}
+use Rattle.std.specs.Prelude.{Ok, Err}
 
 -- version 16 refused, 17 accepted
-pub not_16_refused : VersionChecked 16 (Refused 12) → ⊥
+pub not_16_refused : VersionChecked 16 (Err VersionUnknown) → ⊥
 unfolding version_verdict
-not_16_refused p = let e : ◌≡◌ {A = ℕ} 12 0 = ap number_of_verdict p in omega arith
+not_16_refused p = err_apart tt VersionUnknown p
 
-pub not_17_accepted : VersionChecked 17 Accepted → ⊥
+pub not_17_accepted : VersionChecked 17 (Ok tt) → ⊥
 unfolding version_verdict
-not_17_accepted p = let e : ◌≡◌ {A = ℕ} 0 12 = ap number_of_verdict p in omega arith
+not_17_accepted p = err_apart tt VersionUnknown (sym p)
 
 -- 40 bytes refused, 41 accepted, 1 accepted
-pub not_40_refused : ProgramLengthChecked 1 40 (Refused 15) → ⊥
+pub not_40_refused : ProgramLengthChecked 1 40 (Err ProgramLength) → ⊥
 unfolding length_verdict
-not_40_refused p = let e : ◌≡◌ {A = ℕ} 15 0 = ap number_of_verdict p in omega arith
+not_40_refused p = err_apart tt ProgramLength p
 
-pub not_41_accepted : ProgramLengthChecked 1 41 Accepted → ⊥
+pub not_41_accepted : ProgramLengthChecked 1 41 (Ok tt) → ⊥
 unfolding length_verdict
-not_41_accepted p = let e : ◌≡◌ {A = ℕ} 0 15 = ap number_of_verdict p in omega arith
+not_41_accepted p = err_apart tt ProgramLength (sym p)
 
-pub not_1_accepted : ProgramLengthChecked 1 1 Accepted → ⊥
+pub not_1_accepted : ProgramLengthChecked 1 1 (Ok tt) → ⊥
 unfolding length_verdict
-not_1_accepted p = let e : ◌≡◌ {A = ℕ} 0 15 = ap number_of_verdict p in omega arith
+not_1_accepted p = err_apart tt ProgramLength (sym p)
 
 -- version 0 with 21 bytes accepted, version 1 held to the lengths of version 0
-pub not_21_of_version_0 : ProgramLengthChecked 0 21 Accepted → ⊥
+pub not_21_of_version_0 : ProgramLengthChecked 0 21 (Ok tt) → ⊥
 unfolding length_verdict
-not_21_of_version_0 p = let e : ◌≡◌ {A = ℕ} 0 16 = ap number_of_verdict p in omega arith
+not_21_of_version_0 p = err_apart tt ProgramLengthVersion0 (sym p)
 
-pub not_21_of_version_1 : ProgramLengthChecked 1 21 (Refused 16) → ⊥
+pub not_21_of_version_1 : ProgramLengthChecked 1 21 (Err ProgramLengthVersion0) → ⊥
 unfolding length_verdict
-not_21_of_version_1 p = let e : ◌≡◌ {A = ℕ} 16 0 = ap number_of_verdict p in omega arith
+not_21_of_version_1 p = err_apart tt ProgramLengthVersion0 p

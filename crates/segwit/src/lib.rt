@@ -4,8 +4,7 @@
 ghost use Rattle.std.specs.Prelude.{◌≡◌};
 ghost use Rattle.segwit.specs.Promises.{VersionChecked, ProgramLengthChecked};
 
-use answers::Verdict;
-use numbers::{PROGRAM_LENGTH, PROGRAM_LENGTH_VERSION_0, VERSION_UNKNOWN};
+use numbers::Refusal;
 
 // The longest address, in bytes.
 pub const MAX_STRING_LENGTH: usize = 90;
@@ -27,35 +26,28 @@ pub const KEY_HASH_LENGTH: usize = 20;
 pub const SCRIPT_HASH_LENGTH: usize = 32;
 
 // Any number is asked, also one over 31 that no symbol stands for.
-pub fn check_version(version: u8) -> Verdict
+#[tactic(auto, unfolding(answers::specs::Rules::version_verdict))]
+pub fn check_version(version: u8) -> Result<(), Refusal>
     ensures { VersionChecked version result }
 {
     if MAX_VERSION < version {
-        return Verdict::Refused(VERSION_UNKNOWN);
+        return Err(Refusal::VersionUnknown);
     }
-    Verdict::Accepted
+    Ok(())
 }
 
 // The length rules alone: a version over 16 is not refused here.
-pub fn check_program_length(version: u8, length: usize) -> Verdict
+#[tactic(auto, unfolding(answers::specs::Rules::length_verdict))]
+pub fn check_program_length(version: u8, length: usize) -> Result<(), Refusal>
     ensures { ProgramLengthChecked version length result }
 {
-    if length < MIN_PROGRAM_LENGTH {
-        return Verdict::Refused(PROGRAM_LENGTH);
+    if !(MIN_PROGRAM_LENGTH..=MAX_PROGRAM_LENGTH).contains(&length) {
+        return Err(Refusal::ProgramLength);
     }
-    if MAX_PROGRAM_LENGTH < length {
-        return Verdict::Refused(PROGRAM_LENGTH);
+    if version == VERSION_0 && !matches!(length, KEY_HASH_LENGTH | SCRIPT_HASH_LENGTH) {
+        return Err(Refusal::ProgramLengthVersion0);
     }
-    if version != VERSION_0 {
-        return Verdict::Accepted;
-    }
-    if length == KEY_HASH_LENGTH {
-        return Verdict::Accepted;
-    }
-    if length == SCRIPT_HASH_LENGTH {
-        return Verdict::Accepted;
-    }
-    Verdict::Refused(PROGRAM_LENGTH_VERSION_0)
+    Ok(())
 }
 
 // The two numbers that other crates use, held to the papers here.

@@ -8,15 +8,15 @@ use native.Mathlib.Omega.{arith}
 use lib.ListN.{length, take, drop, length-append, length-drop, take-append-drop}
 use lib.Seq.{take_at}
 use borrow.Author.Tests.{le-ltb, lt-ltb}
+use Rattle.std.specs.Prelude.{Result, Ok, Err}
+use Rattle.numbers.specs.declared.Refusal.{Refusal}
+use Rattle.numbers.specs.declared.Refusal.TheVariants.{RoomSmall}
+use Rattle.numbers.proofs.Numbers.{ok_injective, err_apart}
 use Rattle.paper.specs.Valid.{ValidString}
 use Rattle.answers.specs.Order.{◌gives◌, first_of}
-use Rattle.answers.specs.Reading.{data_part, prefix_part, payload, room_small, reading_rules, read_verdict, part_of}
-use Rattle.answers.specs.declared.Reading.{Reading}
-use Rattle.answers.specs.declared.Reading.TheVariants as reading
-use Rattle.answers.specs.declared.Written.{Written}
-use Rattle.answers.specs.declared.Written.TheVariants as written
-use Rattle.answers.proofs.Exact.{reading_apart, reading_injective, reads_exactly, valid_data, valid_prefix}
-use Rattle.answers.proofs.Rooms.{written_apart}
+use Rattle.answers.specs.Reading.{data_part, prefix_part, payload, room_small, reading_rules, read_verdict, part_of, as_parts, accepts_parts}
+use Rattle.answers.proofs.Exact.{reads_exactly, valid_data, valid_prefix}
+use Rattle.answers.specs.declared.Parts.{Parts}
 use Rattle.decode.proofs.Stages.{rest_decides, stage_refuses}
 use Rattle.theorems.specs.Holds.{Holds}
 use Rattle.theorems.proofs.Detection.{reading_rules_lem}
@@ -28,7 +28,7 @@ module _ {constant : ℕ} {s prefix part : List ℕ} (h : Holds constant s prefi
       rw (valid_data constant 1023 s prefix (part ++ h.check) h.valid)
       (take_at part h.check (length (part ++ h.check) - 6) (omega (arith, length-append part h.check, h.six)))
 
-  pub held_read : read_verdict constant s ≡ reading.Accepted (length prefix) (length part)
+  pub held_read : read_verdict constant s ≡ accepts_parts (length prefix) (length part)
   held_read =
       (reads_exactly constant s (length prefix) (length part)).1
       (record {
@@ -39,7 +39,7 @@ module _ {constant : ℕ} {s prefix part : List ℕ} (h : Holds constant s prefi
         part_length = length-append part h.check ∙ ap (λ (n : ℕ). length part + n) h.six;
       })
 
-pub read_held : (constant : ℕ) (s : List ℕ) (m n : ℕ) → read_verdict constant s ≡ reading.Accepted m n → Holds constant s (prefix_part s) (payload s)
+pub read_held : (constant : ℕ) (s : List ℕ) (m n : ℕ) → read_verdict constant s ≡ accepts_parts m n → Holds constant s (prefix_part s) (payload s)
 unfolding payload
 read_held constant s m n e =
     let r = (reads_exactly constant s m n).0 e in
@@ -57,69 +57,69 @@ read_held constant s m n e =
 
 -- ---- the parts that are handed back
 
-pub no_part : (constant : ℕ) (s : List ℕ) → ((prefix part : List ℕ) → Holds constant s prefix part → ⊥) → (x : List ℕ) → part_of (read_verdict constant s) x ≡ []
+pub no_part : (constant : ℕ) (s : List ℕ) → ((prefix part : List ℕ) → Holds constant s prefix part → ⊥) → (x : List ℕ)
+    → part_of (read_verdict constant s) x ≡ []
 no_part constant s none x = by_reading (read_verdict constant s) refl
   where
-    by_reading : (r : Reading) → read_verdict constant s ≡ r → part_of r x ≡ []
-    by_reading (reading.Accepted m n) e = absurd (none (prefix_part s) (payload s) (read_held constant s m n e))
-    by_reading (reading.Refused k) e = refl
+    by_reading : (r : Result Parts Refusal) → read_verdict constant s ≡ r → part_of r x ≡ []
+    by_reading (Ok parts) e = absurd (none (prefix_part s) (payload s) (read_held constant s parts.prefix parts.symbols e))
+    by_reading (Err k) e = refl
 
 -- ---- a content that is written to a lent buffer
 
 module _ (constant : ℕ) (s content : List ℕ) (room : ℕ) where
-  abbrev pub into : Written
-  into = first_of written.Refused (reading_rules constant s ++ room_small room content gives 17 ∷ []) (written.Accepted (length content))
+  abbrev pub into : Result ℕ Refusal
+  into = first_of (reading_rules constant s ++ room_small room content gives RoomSmall ∷ []) (length content)
 
-  pub into_refused : (k : ℕ) → read_verdict constant s ≡ reading.Refused k → into ≡ written.Refused k
+  pub into_refused : (k : Refusal) → read_verdict constant s ≡ Err k → into ≡ Err k
   unfolding read_verdict
   into_refused k e =
-      sym (stage_refuses reading.Refused reading_injective (reading.Accepted (length (prefix_part s)) (length (payload s)))
-      (reading_apart (length (prefix_part s)) (length (payload s))) written.Refused (written.Accepted (length content))
-      (reading_rules constant s) (room_small room content gives 17 ∷ []) k (sym e))
+      sym (stage_refuses (as_parts (length (prefix_part s)) (length (payload s))) (length content)
+      (reading_rules constant s) (room_small room content gives RoomSmall ∷ []) k (sym e))
 
-  into_rest : (m n : ℕ) → read_verdict constant s ≡ reading.Accepted m n
-      → first_of written.Refused (room_small room content gives 17 ∷ []) (written.Accepted (length content)) ≡ into
+  into_rest : (m n : ℕ) → read_verdict constant s ≡ accepts_parts m n
+      → first_of (room_small room content gives RoomSmall ∷ []) (length content) ≡ into
   into_rest m n e =
-      rest_decides written.Refused (reading_rules constant s) (room_small room content gives 17 ∷ []) (written.Accepted (length content))
+      rest_decides (reading_rules constant s) (room_small room content gives RoomSmall ∷ []) (length content)
       (reading_rules_lem constant s m n e)
 
-  pub into_fits : (m n : ℕ) → read_verdict constant s ≡ reading.Accepted m n → length content ≤ room → into ≡ written.Accepted (length content)
+  pub into_fits : (m n : ℕ) → read_verdict constant s ≡ accepts_parts m n → length content ≤ room → into ≡ Ok (length content)
   unfolding room_small
   into_fits m n e h = sym (into_rest m n e) ∙ rw (le-ltb room (length content) h) refl
 
-  pub into_small : (m n : ℕ) → read_verdict constant s ≡ reading.Accepted m n → room < length content → into ≡ written.Refused 17
+  pub into_small : (m n : ℕ) → read_verdict constant s ≡ accepts_parts m n → room < length content → into ≡ Err RoomSmall
   unfolding room_small
   into_small m n e h = sym (into_rest m n e) ∙ rw (lt-ltb room (length content) h) refl
 
 -- the content is made from the data part: accepted exactly if the string holds one that fits the room
 module _ (constant : ℕ) (s : List ℕ) (f : List ℕ → List ℕ) (room : ℕ) where
-  into_holds : (n : ℕ) → into constant s (f (payload s)) room ≡ written.Accepted n
+  into_holds : (n : ℕ) → into constant s (f (payload s)) room ≡ Ok n
       → ((prefix : List ℕ) × (part : List ℕ) × Holds constant s prefix part × (length (f part) ≡ n)) × (n ≤ room)
   into_holds n e = by_reading (read_verdict constant s) refl
     where
-      by_room : (m k : ℕ) → read_verdict constant s ≡ reading.Accepted m k → Dec (length (f (payload s)) ≤ room)
+      by_room : (m k : ℕ) → read_verdict constant s ≡ accepts_parts m k → Dec (length (f (payload s)) ≤ room)
           → ((prefix : List ℕ) × (part : List ℕ) × Holds constant s prefix part × (length (f part) ≡ n)) × (n ≤ room)
       by_room m k accepted (yes fits) =
-          let same : written.Accepted (length (f (payload s))) ≡ written.Accepted n = sym (into_fits constant s (f (payload s)) room m k accepted fits) ∙ e in
-          let size : length (f (payload s)) ≡ n = cc in
+          let size : length (f (payload s)) ≡ n =
+          ok_injective (length (f (payload s))) n (sym (into_fits constant s (f (payload s)) room m k accepted fits) ∙ e) in
           ((prefix_part s, payload s, read_held constant s m k accepted, size), omega arith)
       by_room m k accepted (no small) =
-          absurd (written_apart n 17 (sym (into_small constant s (f (payload s)) room m k accepted (omega (arith, small))) ∙ e))
+          absurd (err_apart n RoomSmall (sym (into_small constant s (f (payload s)) room m k accepted (omega (arith, small))) ∙ e))
 
-      by_reading : (r : Reading) → read_verdict constant s ≡ r
+      by_reading : (r : Result Parts Refusal) → read_verdict constant s ≡ r
           → ((prefix : List ℕ) × (part : List ℕ) × Holds constant s prefix part × (length (f part) ≡ n)) × (n ≤ room)
-      by_reading (reading.Accepted m k) accepted = by_room m k accepted (dec_le (length (f (payload s))) room)
-      by_reading (reading.Refused k) refused = absurd (written_apart n k (sym (into_refused constant s (f (payload s)) room k refused) ∙ e))
+      by_reading (Ok parts) accepted = by_room parts.prefix parts.symbols accepted (dec_le (length (f (payload s))) room)
+      by_reading (Err k) refused = absurd (err_apart n k (sym (into_refused constant s (f (payload s)) room k refused) ∙ e))
 
   pub held_into : {prefix part : List ℕ} → Holds constant s prefix part → length (f part) ≤ room
-      → into constant s (f (payload s)) room ≡ written.Accepted (length (f part))
+      → into constant s (f (payload s)) room ≡ Ok (length (f part))
   held_into {prefix = prefix} {part = part} h fits =
       into_fits constant s (f (payload s)) room (length prefix) (length part) (held_read h) (rw (held_payload h) fits)
-      ∙ ap (λ (l : List ℕ). written.Accepted (length (f l))) (held_payload h)
+      ∙ ap (λ (l : List ℕ). Ok (length (f l))) (held_payload h)
 
-  pub into_exactly : (n : ℕ) → (into constant s (f (payload s)) room ≡ written.Accepted n)
+  pub into_exactly : (n : ℕ) → (into constant s (f (payload s)) room ≡ Ok n)
       ↔ (((prefix : List ℕ) × (part : List ℕ) × Holds constant s prefix part × (length (f part) ≡ n)) × (n ≤ room))
   into_exactly n = (
     into_holds n,
-    (λ x. held_into x.0.2 (let size : length (f x.0.1) ≡ n = x.0.3 in let fits : n ≤ room = x.1 in omega arith) ∙ ap written.Accepted x.0.3),
+    (λ x. held_into x.0.2 (let size : length (f x.0.1) ≡ n = x.0.3 in let fits : n ≤ room = x.1 in omega arith) ∙ ap Ok x.0.3),
   )

@@ -6,14 +6,13 @@ use Prim.Native.Nat.{ℕ}
 use native.Mathlib.Omega.{arith}
 use lib.Dec.{lit<, lit≤}
 use lib.ListN.{replicate}
+use Rattle.std.specs.Prelude.{Ok, Err}
 use Rattle.laws.specs.Text.{bytes}
+use Rattle.numbers.specs.declared.Refusal.TheVariants.{MixedCase, ChecksumWrong, VersionUnknown}
 use Rattle.paper.specs.Charset.{symbol}
 use Rattle.paper.specs.Checksum.{residue, change_at, bech32, bech32m}
 use Rattle.answers.specs.Accepted.{ReadAs, AddressAs}
-use Rattle.answers.specs.Reading.{read_verdict, address_verdict}
-use Rattle.answers.specs.declared.Reading.TheVariants as reading
-use Rattle.answers.specs.declared.Written.TheVariants as written
-use Rattle.answers.specs.declared.Address.TheVariants as address
+use Rattle.answers.specs.Reading.{read_verdict, address_verdict, accepts_parts, accepts_address}
 use Rattle.answers.proofs.Computing.{computing}
 use Rattle.answers.proofs.Exact.{reads_exactly, address_exactly}
 use Rattle.answers.proofs.Cases.{taproot, abcd_bech32}
@@ -77,8 +76,8 @@ mixed_copy =
     }
 
 -- as computed: 9 and 2
-pub copies_refused : (read_verdict bech32 (bytes "a12uel5l") ≡ reading.Accepted 1 0)
-    × (read_verdict bech32 (bytes "A12UEL5Q") ≡ reading.Refused 9) × (read_verdict bech32 (bytes "a12uel5Q") ≡ reading.Refused 2)
+pub copies_refused : (read_verdict bech32 (bytes "a12uel5l") ≡ accepts_parts 1 0)
+    × (read_verdict bech32 (bytes "A12UEL5Q") ≡ Err ChecksumWrong) × (read_verdict bech32 (bytes "a12uel5Q") ≡ Err MixedCase)
 unfolding computing
 copies_refused = (refl, refl, refl)
 
@@ -106,9 +105,9 @@ unfolding computing
 version_17_same_checksum = (λ e. let z : ◌≡◌ {A = ℕ} 16 0 = e in absurd (omega arith), λ e. let z : ◌≡◌ {A = ℕ} 17 0 = e in absurd (omega arith))
 
 -- as computed: 12; and with another symbol of the program 9, or 2
-pub address_copies_refused : (address_verdict (bytes "BC1SW50QGDZ25J") ≡ address.Accepted 16 2)
-    × (address_verdict (bytes "BC13W50QGDZ25J") ≡ address.Refused 12) × (address_verdict (bytes "BC1SQ50QGDZ25J") ≡ address.Refused 9)
-    × (address_verdict (bytes "BC1Sq50QGDZ25J") ≡ address.Refused 2)
+pub address_copies_refused : (address_verdict (bytes "BC1SW50QGDZ25J") ≡ accepts_address 16 2)
+    × (address_verdict (bytes "BC13W50QGDZ25J") ≡ Err VersionUnknown) × (address_verdict (bytes "BC1SQ50QGDZ25J") ≡ Err ChecksumWrong)
+    × (address_verdict (bytes "BC1Sq50QGDZ25J") ≡ Err MixedCase)
 unfolding computing
 address_copies_refused = (refl, refl, refl, refl)
 
@@ -211,26 +210,26 @@ first_mixed = record { before = bytes "a"; byte = 66; after = bytes " "; parts =
 
 -- ---- what the functions with a lent buffer promise, met at short strings with room for one byte more
 
-pub symbols_written : SymbolsWritten Bech32 (bytes "A") [] (replicate 9 255) (written.Accepted 8) (bytes "a12uel5l" ++ 255 ∷ [])
+pub symbols_written : SymbolsWritten Bech32 (bytes "A") [] (replicate 9 255) (Ok 8) (bytes "a12uel5l" ++ 255 ∷ [])
 unfolding computing
 symbols_written = record { answer = refl; buffer = refl }
 
-pub bytes_written : BytesWritten Bech32m (bytes "A") [] (replicate 9 255) (written.Accepted 8) (bytes "a1lqfn3a" ++ 255 ∷ [])
+pub bytes_written : BytesWritten Bech32m (bytes "A") [] (replicate 9 255) (Ok 8) (bytes "a1lqfn3a" ++ 255 ∷ [])
 unfolding computing
 bytes_written = record { answer = refl; buffer = refl }
 
-pub address_written : AddressWritten (bytes "BC") 16 (0x75 ∷ 0x1e ∷ []) (replicate 15 255) (written.Accepted 14) (bytes "bc1sw50qgdz25j" ++ 255 ∷ [])
+pub address_written : AddressWritten (bytes "BC") 16 (0x75 ∷ 0x1e ∷ []) (replicate 15 255) (Ok 14) (bytes "bc1sw50qgdz25j" ++ 255 ∷ [])
 unfolding computing
 address_written = record { answer = refl; buffer = refl }
 
-pub symbols_read : SymbolsRead Bech32m (bytes "BC1SW50QGDZ25J") (replicate 6 255) (written.Accepted 5) (16 ∷ 14 ∷ 20 ∷ 15 ∷ 0 ∷ 255 ∷ [])
+pub symbols_read : SymbolsRead Bech32m (bytes "BC1SW50QGDZ25J") (replicate 6 255) (Ok 5) (16 ∷ 14 ∷ 20 ∷ 15 ∷ 0 ∷ 255 ∷ [])
 unfolding computing read_symbols_verdict
 symbols_read = record { answer = refl; buffer = refl }
 
-pub bytes_read : BytesRead Bech32m (bytes "BC1SW50QGDZ25J") (replicate 4 255) (written.Accepted 3) (131 ∷ 168 ∷ 240 ∷ 255 ∷ [])
+pub bytes_read : BytesRead Bech32m (bytes "BC1SW50QGDZ25J") (replicate 4 255) (Ok 3) (131 ∷ 168 ∷ 240 ∷ 255 ∷ [])
 unfolding computing
 bytes_read = record { answer = refl; buffer = refl }
 
-pub address_read : AddressRead (bytes "BC1SW50QGDZ25J") (replicate 3 255) (address.Accepted 16 2) (0x75 ∷ 0x1e ∷ 255 ∷ [])
+pub address_read : AddressRead (bytes "BC1SW50QGDZ25J") (replicate 3 255) (accepts_address 16 2) (0x75 ∷ 0x1e ∷ 255 ∷ [])
 unfolding computing
 address_read = record { answer = refl; buffer = refl }

@@ -1,41 +1,26 @@
 -- Document 01, "Limits": for every n, n program symbols with n mod 8 of 1, 3 or 6 leave 5, 7 or 6 bits, and so 13; any other n leaves at most 4.
-use mathlib.Core.Path.{◌≡◌, refl, ap, ◌∙◌}
-use mathlib.Core.Logic.{◌⊎◌, inl, inr, ◌↔◌}
+use mathlib.Core.Path.{◌≡◌, ap, ◌∙◌}
+use mathlib.Core.Logic.{◌↔◌}
 use mathlib.Core.Bool.{true}
 use mathlib.Core.List.{List, [], ◌∷◌}
-use Prim.Native.Nat.{ℕ, zero, suc, ◌+◌, ◌*◌, ◌/◌, ◌%◌, ◌<◌}
-use native.Mathlib.Nat.{mul-add-mod_self_right}
+use Prim.Native.Nat.{ℕ, ◌*◌, ◌%◌, ◌<◌}
 use native.Mathlib.Omega.{arith}
 use lib.ListN.{length}
 use borrow.Author.Tests.{ltb-true, lt-ltb}
+use Rattle.std.specs.Prelude.{Err}
+use Rattle.numbers.specs.declared.Refusal.TheVariants.{PaddingLong, PaddingNotZero}
 use Rattle.paper.specs.Bits.{padding}
 use Rattle.answers.specs.Order.{◌gives◌, NoneApplies, rules_before}
 use Rattle.answers.specs.Rules.{padding_long, padding_not_zero, padding_verdict}
 use Rattle.answers.specs.Reading.{program_symbols, address_rules, address_verdict}
-use Rattle.answers.specs.declared.Verdict.TheVariants as verdict
-use Rattle.answers.specs.declared.Address.TheVariants as address
 use Rattle.answers.proofs.Orders.{exactly_gives}
-use Rattle.answers.proofs.Refusals.{verdict_apart, verdict_injective, address_13}
+use Rattle.answers.proofs.Refusals.{address_13}
 use Rattle.iter.proofs.Lengths.{padding_length}
 use Rattle.theorems.specs.Leftover.{LeavesMany}
 
 -- only n mod 8 matters
 left_by_eight : (n : ℕ) → n * 5 % 8 ≡ n % 8 * 5 % 8
-left_by_eight n = ap (λ (m : ℕ). m % 8) parts ∙ mul-add-mod_self_right (n / 8 * 5) 8 (n % 8 * 5)
-  where
-    parts : n * 5 ≡ n / 8 * 5 * 8 + n % 8 * 5
-    parts = omega arith
-
-many_of : (k : ℕ) → k < 8 → 4 < k * 5 % 8 → (k ≡ 1) ⊎ ((k ≡ 3) ⊎ (k ≡ 6))
-many_of zero h many = absurd (omega arith)
-many_of (suc zero) h many = inl refl
-many_of (suc (suc zero)) h many = absurd (omega arith)
-many_of (suc (suc (suc zero))) h many = inr (inl refl)
-many_of (suc (suc (suc (suc zero)))) h many = absurd (omega arith)
-many_of (suc (suc (suc (suc (suc zero))))) h many = absurd (omega arith)
-many_of (suc (suc (suc (suc (suc (suc zero)))))) h many = inr (inr refl)
-many_of (suc (suc (suc (suc (suc (suc (suc zero))))))) h many = absurd (omega arith)
-many_of (suc (suc (suc (suc (suc (suc (suc (suc k)))))))) h many = absurd (omega arith)
+left_by_eight n = omega arith
 
 module _ (symbols : List ℕ) where
   left : length (padding symbols) ≡ length symbols % 8 * 5 % 8
@@ -51,12 +36,10 @@ module _ (symbols : List ℕ) where
   leaves_6 h = left ∙ ap (λ (k : ℕ). k * 5 % 8) h
 
   many_long : LeavesMany (length symbols) → 4 < length (padding symbols)
-  many_long (inl h) = omega (arith, leaves_5 h)
-  many_long (inr (inl h)) = omega (arith, leaves_7 h)
-  many_long (inr (inr h)) = omega (arith, leaves_6 h)
+  many_long many = grind (arith, left)
 
   long_many : 4 < length (padding symbols) → LeavesMany (length symbols)
-  long_many h = many_of (length symbols % 8) (omega arith) (omega (arith, left))
+  long_many h = grind (arith, left)
 
   many_exactly : (padding_long symbols ≡ true) ↔ LeavesMany (length symbols)
   unfolding padding_long
@@ -66,16 +49,16 @@ module _ (symbols : List ℕ) where
   )
 
   -- asked alone: 13 exactly for such a count
-  pub padding_13 : (padding_verdict symbols ≡ verdict.Refused 13) ↔ LeavesMany (length symbols)
+  pub padding_13 : (padding_verdict symbols ≡ Err PaddingLong) ↔ LeavesMany (length symbols)
   unfolding padding_verdict
   padding_13 =
       let first =
-      exactly_gives verdict.Refused verdict_injective verdict.Accepted verdict_apart 13 (padding_long symbols gives 13 ∷ padding_not_zero symbols gives 14 ∷ []) tt in
+      exactly_gives tt PaddingLong (padding_long symbols gives PaddingLong ∷ padding_not_zero symbols gives PaddingNotZero ∷ []) tt in
       (λ e. many_exactly.0 (first.0 e).1, λ many. first.1 (tt, many_exactly.1 many))
 
 -- of an address: 13 exactly for such a count of program symbols, where no rule before it applies
 pub address_13_exactly : (s : List ℕ)
-    → (address_verdict s ≡ address.Refused 13) ↔ (NoneApplies (rules_before 13 (address_rules s)) × LeavesMany (length (program_symbols s)))
+    → (address_verdict s ≡ Err PaddingLong) ↔ (NoneApplies (rules_before PaddingLong (address_rules s)) × LeavesMany (length (program_symbols s)))
 address_13_exactly s = (
   (λ e. let first = (address_13 s).0 e in (first.0, (many_exactly (program_symbols s)).0 first.1)),
   (λ x. (address_13 s).1 (x.0, (many_exactly (program_symbols s)).1 x.1)),

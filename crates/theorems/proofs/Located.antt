@@ -1,26 +1,31 @@
 -- The locator: which place it names exactly, that there is at most one, and that after one change it is the changed place, cases unmixed.
-use mathlib.Core.Path.{◌≡◌, refl, sym, ap, ap₂, ◌∙◌}
+use mathlib.Core.Path.{◌≡◌, refl, sym, ap, ◌∙◌}
 use mathlib.Core.Logic.{◌≢◌, inl, inr, ◌↔◌}
 use mathlib.Core.Bool.{Bool, true, false}
 use mathlib.Core.List.{List, [], ◌∷◌, ◌++◌, map}
 use Prim.Native.Nat.{ℕ, zero, suc, ◌-◌, ◌≤◌, ◌<◌}
 use native.Mathlib.Omega.{arith}
-use lib.Dec.{eqb}
 use lib.ListN.{length, get_or, set, length-append, length-map, length-set}
 use lib.Seq.{get_or-set_same}
-use borrow.Author.Tests.{eqb-true, ltb-true}
+use borrow.Author.Tests.{ltb-true}
+use Rattle.std.specs.Prelude.{Result, Ok, Err}
+use Rattle.std.proofs.lemmas.List.{map-set}
 use Rattle.laws.specs.Pick.{pick}
 use Rattle.laws.specs.Lists.{all}
 use Rattle.laws.proofs.Bools.{and_first, and_second}
 use Rattle.laws.proofs.Front.{get_d_map}
+use Rattle.numbers.specs.declared.Refusal.{Refusal}
+use Rattle.numbers.specs.declared.Refusal.TheVariants.{MixedCase, ChecksumWrong, NoSinglePlace}
+use Rattle.numbers.proofs.Numbers.{err_apart, err_injective}
 use Rattle.paper.specs.Charset.{is_symbol, symbol, lower}
 use Rattle.paper.specs.Checksum.{polymod, expand, residue}
 use Rattle.paper.proofs.Symbols.{symbols_of_lem}
 use Rattle.paper.proofs.Polymod.{polymod_append}
-use Rattle.answers.specs.Reading.{data_part, prefix_part, mixed_case, read_verdict}
-use Rattle.answers.specs.declared.Reading.{Reading}
-use Rattle.answers.specs.declared.Reading.TheVariants as reading
+use Rattle.answers.specs.Reading.{data_part, prefix_part, payload, mixed_case, reading_rules, read_verdict, as_parts, accepts_parts}
+use Rattle.answers.specs.Order.{is_same}
+use Rattle.answers.proofs.Orders.{same_refusal, accepted_only}
 use Rattle.answers.proofs.Refusals.{reading_never}
+use Rattle.answers.specs.declared.Parts.{Parts}
 use Rattle.detection.specs.Patterns.{dist}
 use Rattle.detection.specs.Places.{Explains}
 use Rattle.detection.proofs.Distance.{dist_set, dist_zero}
@@ -28,10 +33,7 @@ use Rattle.detection.proofs.Locate.{one_place, explains_change}
 use Rattle.checksum.specs.Parameters.{constant_for}
 use Rattle.checksum.specs.declared.Checksum.{Checksum}
 use Rattle.decode.specs.Promises.{WasRead}
-use Rattle.decode.proofs.Generic.{read_prefix_length, read_payload_length}
 use Rattle.correction.specs.Locator.{explains, place_verdict, after_reading, locate_verdict}
-use Rattle.correction.specs.declared.Located.{Located}
-use Rattle.correction.specs.declared.Located.TheVariants as located
 use Rattle.correction.specs.Promises.{WasLocated}
 use Rattle.correction.proofs.Verdicts.{statement_explains, place_found, place_given, place_missing}
 use Rattle.theorems.specs.Changes.{Changed, ChangedAt}
@@ -40,26 +42,27 @@ use Rattle.theorems.proofs.Strings.{part_before, part_after, prefix_after, prefi
 use Rattle.theorems.proofs.Detection.{three_changes_refused, residue_right, length_right}
 
 module _ (constant : ℕ) (s : List ℕ) (p : ℕ) where
-  place : Located
+  place : Result ℕ Refusal
   place = place_verdict constant (residue (prefix_part s) (map symbol (data_part s)))
 
   -- how the three are found from the verdict, by what reading says
-  by_number : (n : ℕ) (b : Bool) → eqb n 9 ≡ b → read_verdict constant s ≡ reading.Refused n → pick b place (located.Refused n) ≡ located.At p → Named constant s p
+  by_refusal : (r : Refusal) (b : Bool) → is_same r ChecksumWrong ≡ b → read_verdict constant s ≡ Err r → pick b place (Err r) ≡ Ok p
+      → Named constant s p
   unfolding place
-  by_number n true nine e named =
+  by_refusal r true wrong e named =
       let found = place_given constant (residue (prefix_part s) (map symbol (data_part s))) p named in
-      (e ∙ ap reading.Refused (eqb-true n 9 nine), found.0, found.1)
-  by_number n false other e named = absurd (let z : ◌≡◌ {A = ℕ} 0 1 = cc in omega arith)
+      (e ∙ ap Err (same_refusal r ChecksumWrong wrong), found.0, found.1)
+  by_refusal r false other e named = absurd cc
 
-  by_reading : (r : Reading) → read_verdict constant s ≡ r → after_reading r place ≡ located.At p → Named constant s p
-  by_reading (reading.Accepted m n) e named = absurd (let z : ◌≡◌ {A = ℕ} 0 1 = cc in omega arith)
-  by_reading (reading.Refused n) e named = by_number n (eqb n 9) refl e named
+  by_reading : (r : Result Parts Refusal) → read_verdict constant s ≡ r → after_reading r place ≡ Ok p → Named constant s p
+  by_reading (Ok parts) e named = absurd cc
+  by_reading (Err r) e named = by_refusal r (is_same r ChecksumWrong) refl e named
 
-  is_named : locate_verdict constant s ≡ located.At p → Named constant s p
+  is_named : locate_verdict constant s ≡ Ok p → Named constant s p
   unfolding locate_verdict place
   is_named e = by_reading (read_verdict constant s) refl e
 
-  named_is : Named constant s p → locate_verdict constant s ≡ located.At p
+  named_is : Named constant s p → locate_verdict constant s ≡ Ok p
   unfolding locate_verdict
   named_is x =
       rw x.0
@@ -67,7 +70,7 @@ module _ (constant : ℕ) (s : List ℕ) (p : ℕ) where
       (statement_explains constant (residue (prefix_part s) (map symbol (data_part s))) p x.2))
 
   -- Document 01's locator names exactly such a place.
-  pub locates_exactly : (locate_verdict constant s ≡ located.At p) ↔ Named constant s p
+  pub locates_exactly : (locate_verdict constant s ≡ Ok p) ↔ Named constant s p
   locates_exactly = (is_named, named_is)
 
 -- There is at most one.
@@ -78,42 +81,42 @@ named_once constant s p q x y = one_place (residue (prefix_part s) (map symbol (
 
 module _ (constant : ℕ) (s : List ℕ) where
   -- a residue for which no place is named
-  none_explains : (r : ℕ) → place_verdict constant r ≡ located.Refused 21 → (p : ℕ) → p < 1023 → Explains r constant p → ⊥
+  none_explains : (r : ℕ) → place_verdict constant r ≡ Err NoSinglePlace → (p : ℕ) → p < 1023 → Explains r constant p → ⊥
   none_explains r e p h x =
-      let both : located.At p ≡ located.Refused 21 = sym (place_found constant r p h (statement_explains constant r p x)) ∙ e in
-      let z : ◌≡◌ {A = ℕ} 0 1 = cc in omega arith
+      err_apart p NoSinglePlace (sym e ∙ place_found constant r p h (statement_explains constant r p x))
 
-  from_number : (n : ℕ) (b : Bool) → eqb n 9 ≡ b → read_verdict constant s ≡ reading.Refused n
-      → pick b (place_verdict constant (residue (prefix_part s) (map symbol (data_part s)))) (located.Refused n) ≡ located.Refused 21 → Unplaced constant s
-  from_number n true nine e none =
-      inr (e ∙ ap reading.Refused (eqb-true n 9 nine), none_explains (residue (prefix_part s) (map symbol (data_part s))) none)
-  from_number n false other e none = let same : n ≡ 21 = cc in absurd (reading_never constant s 21 tt (e ∙ ap reading.Refused same))
+  from_refusal : (r : Refusal) (b : Bool) → is_same r ChecksumWrong ≡ b → read_verdict constant s ≡ Err r
+      → pick b (place_verdict constant (residue (prefix_part s) (map symbol (data_part s)))) (Err r) ≡ Err NoSinglePlace → Unplaced constant s
+  from_refusal r true wrong e none =
+      inr (e ∙ ap Err (same_refusal r ChecksumWrong wrong), none_explains (residue (prefix_part s) (map symbol (data_part s))) none)
+  from_refusal r false other e none =
+      absurd (reading_never constant s NoSinglePlace tt (e ∙ ap Err (err_injective r NoSinglePlace none)))
 
-  from_reading : (r : Reading) → read_verdict constant s ≡ r
-      → after_reading r (place_verdict constant (residue (prefix_part s) (map symbol (data_part s)))) ≡ located.Refused 21 → Unplaced constant s
-  from_reading (reading.Accepted m n) e none =
-      inl (e ∙ ap₂ reading.Accepted (read_prefix_length constant s m n (sym e)) (read_payload_length constant s m n (sym e)))
-  from_reading (reading.Refused n) e none = from_number n (eqb n 9) refl e none
+  -- what is accepted is the string's parts
+  from_parts : (parts : Parts) → read_verdict constant s ≡ Ok parts → read_verdict constant s ≡ accepts_parts (length (prefix_part s)) (length (payload s))
+  unfolding read_verdict
+  from_parts parts e =
+      e ∙ ap Ok (sym (accepted_only (as_parts (length (prefix_part s)) (length (payload s))) parts (reading_rules constant s) e).1)
 
-  is_unplaced : locate_verdict constant s ≡ located.Refused 21 → Unplaced constant s
+  from_reading : (r : Result Parts Refusal) → read_verdict constant s ≡ r
+      → after_reading r (place_verdict constant (residue (prefix_part s) (map symbol (data_part s)))) ≡ Err NoSinglePlace → Unplaced constant s
+  from_reading (Ok parts) e none = inl (from_parts parts e)
+  from_reading (Err r) e none = from_refusal r (is_same r ChecksumWrong) refl e none
+
+  is_unplaced : locate_verdict constant s ≡ Err NoSinglePlace → Unplaced constant s
   unfolding locate_verdict
   is_unplaced e = from_reading (read_verdict constant s) refl e
 
-  unplaced_is : Unplaced constant s → locate_verdict constant s ≡ located.Refused 21
+  unplaced_is : Unplaced constant s → locate_verdict constant s ≡ Err NoSinglePlace
   unfolding locate_verdict
   unplaced_is (inl e) = rw e refl
   unplaced_is (inr x) = rw x.0 (place_missing constant (residue (prefix_part s) (map symbol (data_part s))) x.1)
 
-  -- Document 01's locator gives 21 exactly for such a string.
-  pub locates_21 : (locate_verdict constant s ≡ located.Refused 21) ↔ Unplaced constant s
+  -- Document 01's locator gives NoSinglePlace exactly for such a string.
+  pub locates_21 : (locate_verdict constant s ≡ Err NoSinglePlace) ↔ Unplaced constant s
   locates_21 = (is_unplaced, unplaced_is)
 
 -- ---- one change
-
-map_set : (f : ℕ → ℕ) (l : List ℕ) (i y : ℕ) → map f (set l i y) ≡ set (map f l) i (f y)
-map_set f [] i y = refl
-map_set f (x ∷ l) zero y = refl
-map_set f (x ∷ l) (suc i) y = ap (λ (r : List ℕ). f x ∷ r) (map_set f l i y)
 
 all_set : (q : ℕ → Bool) (l : List ℕ) (i y : ℕ) → all q l ≡ true → q y ≡ true → all q (set l i y) ≡ true
 all_set q [] i y e h = refl
@@ -156,8 +159,8 @@ module _ {p : ℕ} {s t : List ℕ} (c : ChangedAt p s t) where
         symbols = c.symbols;
         still_symbols = all_set is_symbol c.part c.index c.character c.symbols c.still_symbol;
         one_length = sym (length-set c.part c.index c.character);
-        some = rw (map_set symbol c.part c.index c.character) (differs (dist (map symbol c.part) others) refl);
-        few = rw (map_set symbol c.part c.index c.character)
+        some = rw (map-set symbol c.part c.index c.character) (differs (dist (map symbol c.part) others) refl);
+        few = rw (map-set symbol c.part c.index c.character)
             (let one : dist (map symbol c.part) (set (map symbol c.part) c.index (symbol c.character)) ≤ 1 =
             dist_set (map symbol c.part) c.index (symbol c.character) in omega arith);
       }
@@ -165,7 +168,7 @@ module _ {p : ℕ} {s t : List ℕ} (c : ChangedAt p s t) where
   residue_after : residue (prefix_part t) (map symbol (data_part t)) ≡ polymod (polymod 1 (expand (map lower c.prefix))) others
   unfolding residue others changed
   residue_after =
-      rw (prefix_after changed, part_after changed, map_set symbol c.part c.index c.character)
+      rw (prefix_after changed, part_after changed, map-set symbol c.part c.index c.character)
       (polymod_append 1 (expand (map lower c.prefix)) (set (map symbol c.part) c.index (symbol c.character)))
 
   residue_before : residue (prefix_part s) (map symbol (data_part s)) ≡ polymod (polymod 1 (expand (map lower c.prefix))) (map symbol c.part)
@@ -183,8 +186,8 @@ module _ {p : ℕ} {s t : List ℕ} (c : ChangedAt p s t) where
       (symbols_of_lem c.part c.symbols) inside symbol_below other_symbol))
 
   -- After one change of an accepted string the locator names the changed place; where the change mixed the cases it says 2, as reading does.
-  pub locates_the_change : (constant m n : ℕ) → read_verdict constant s ≡ reading.Accepted m n
-      → locate_verdict constant t ≡ pick (mixed_case t) (located.Refused 2) (located.At p)
+  pub locates_the_change : (constant m n : ℕ) → read_verdict constant s ≡ accepts_parts m n
+      → locate_verdict constant t ≡ pick (mixed_case t) (Err MixedCase) (Ok p)
   unfolding locate_verdict
   locates_the_change constant m n e = rw (three_changes_refused constant s t m n e changed) (by_case (mixed_case t))
     where
@@ -199,13 +202,13 @@ module _ {p : ℕ} {s t : List ℕ} (c : ChangedAt p s t) where
           omega (arith, length-append c.prefix (49 ∷ c.part))
 
       by_case : (mixed : Bool)
-          → after_reading (reading.Refused (pick mixed 2 9)) (place_verdict constant (residue (prefix_part t) (map symbol (data_part t))))
-          ≡ pick mixed (located.Refused 2) (located.At p)
+          → after_reading (Err (pick mixed MixedCase ChecksumWrong)) (place_verdict constant (residue (prefix_part t) (map symbol (data_part t))))
+          ≡ pick mixed (Err MixedCase) (Ok p)
       by_case true = refl
       by_case false = place_found constant (residue (prefix_part t) (map symbol (data_part t))) p low (explained constant came)
 
   -- So does correction::locate.
-  pub locate_names_the_change : (checksum : Checksum) (m n : ℕ) (r : Reading) (r' : Located)
-      → WasRead checksum s r → r ≡ reading.Accepted m n → WasLocated checksum t r' → r' ≡ pick (mixed_case t) (located.Refused 2) (located.At p)
+  pub locate_names_the_change : (checksum : Checksum) (m n : ℕ) (r : Result Parts Refusal) (r' : Result ℕ Refusal)
+      → WasRead checksum s r → r ≡ accepts_parts m n → WasLocated checksum t r' → r' ≡ pick (mixed_case t) (Err MixedCase) (Ok p)
   locate_names_the_change checksum m n r r' kept accepted kept' =
       kept' ∙ locates_the_change (constant_for checksum) m n (sym kept ∙ accepted)

@@ -10,6 +10,7 @@ use borrow.Author.Tests.{eqb-true, not-false, ne_eqb}
 use Rattle.laws.specs.Lists.{any, all}
 use Rattle.laws.proofs.Bools.{both_ways}
 use Rattle.laws.proofs.Lists.{all_every, none_any}
+use Rattle.numbers.specs.declared.Refusal.TheVariants.{OutsideCharset, MixedCase, NoSeparator, PrefixEmpty, PrefixLong, PrefixByte}
 use Rattle.paper.specs.Charset.{is_separator, is_symbol, is_printable, symbol, lower, charset}
 use Rattle.paper.specs.Checksum.{polymod, expand, residue}
 use Rattle.paper.proofs.Symbols.{symbols_of_lem}
@@ -78,12 +79,12 @@ module _ {w : ℕ} {s t : List ℕ} (c : Changed w s t) where
   unfolding separator_missing prefix_empty prefix_long prefix_byte_outside
   string_rules_after none one_case =
       none_applies (string_rules t)
-      (1 passes characters_after
-      ∷ 2 passes one_case
-      ∷ 3 passes (rw (c.after, separator_seen c.copied c.other) refl)
-      ∷ 4 passes (rw same_prefix_length (passed 4 (string_rules s) none))
-      ∷ 5 passes (rw same_prefix_length (passed 5 (string_rules s) none))
-      ∷ 6 passes (rw same_printable (passed 6 (string_rules s) none))
+      (OutsideCharset passes characters_after
+      ∷ MixedCase passes one_case
+      ∷ NoSeparator passes (rw (c.after, separator_seen c.copied c.other) refl)
+      ∷ PrefixEmpty passes (rw same_prefix_length (passed PrefixEmpty (string_rules s) none))
+      ∷ PrefixLong passes (rw same_prefix_length (passed PrefixLong (string_rules s) none))
+      ∷ PrefixByte passes (rw same_printable (passed PrefixByte (string_rules s) none))
       ∷ [])
       tt
 
@@ -114,7 +115,8 @@ module _ {w : ℕ} {s t : List ℕ} (c : Changed w s t) where
       came : polymod 1 (expand (map lower c.prefix) ++ map symbol c.part) ≡ constant
       came =
           rw (← prefix_before, ← part_before)
-          (eqb-true (residue (prefix_part s) (map symbol (data_part s))) constant (not-false (eqb (residue (prefix_part s) (map symbol (data_part s))) constant) right))
+          (eqb-true (residue (prefix_part s) (map symbol (data_part s))) constant
+          (not-false (eqb (residue (prefix_part s) (map symbol (data_part s))) constant) right))
 
       folded_comes : residue (prefix_part t) (map symbol (data_part t)) ≡ constant
           → polymod 1 (expand (map lower c.prefix) ++ map symbol c.other) ≡ constant

@@ -1,27 +1,29 @@
 -- `answer` goes through a piece, and ends: what lines::feed tells lies within the piece and the output.
-use Rattle.std.proofs.Common.{refl, arith}
-use Rattle.checker.proofs.Turns.{fed_rest}
+use Rattle.std.proofs.Common.{ℕ, ◌-◌, ◌<◌, ◌≤◌, List, length, take, drop, sym, length-take-le, length-drop, arith, rules}
+use Rattle.lines.proofs.Whole.{feed_numbers}
 use Rattle.checker.proofs.answer.Goals as goal
 
-pub write-requires : goal.write-requires
-write-requires g c =
-    (fed_rest _ _ _ _ _ _ _ _ _ _ _ c.in-Took.ensures refl c.loop-at.invariant.1 (omega arith) c.loop-at-test.true).1
+-- what is left of a piece once something of it is taken
+less_left : (rest : List ℕ) (taken : ℕ) → 0 < taken → taken ≤ length rest → length (take (length rest - taken) (drop taken rest)) < length rest
+less_left rest taken h k = omega (arith, length-take-le (length rest - taken) (drop taken rest) (omega (arith, length-drop taken rest)))
 
-pub returns-then-not-write : goal.returns-then-not-write
-returns-then-not-write g c =
-    (fed_rest _ _ _ _ _ _ _ _ _ _ _ c.in-Took.ensures refl c.loop-at.invariant.1 (omega arith) c.loop-at-test.true).2
+pub slice_bounds-write_all-end : goal.slice_bounds-write_all-end
+slice_bounds-write_all-end g c = (feed_numbers _ _ _ _ _ _ _ c.in-Ok.ensures c.loop-rest.invariant (omega arith)).1
 
-pub overflow_add-at : goal.overflow_add-at
-overflow_add-at g c =
-    let n = fed_rest _ _ _ _ _ _ _ _ _ _ _ c.in-Took.ensures refl c.loop-at.invariant.1 (omega arith) c.loop-at-test.true in
-    omega (arith, n.0)
+pub slice_bounds-write_all-end-in-loop-rest : goal.slice_bounds-write_all-end-in-loop-rest
+slice_bounds-write_all-end-in-loop-rest g c =
+    sym (length-take-le _ _ (feed_numbers _ _ _ _ _ _ _ c.in-Ok.ensures c.loop-rest.invariant (omega arith)).1)
 
-pub loop-at-smaller : goal.loop-at-smaller
-loop-at-smaller g c =
-    let n = fed_rest _ _ _ _ _ _ _ _ _ _ _ c.in-Took.ensures refl c.loop-at.invariant.1 (omega arith) c.loop-at-test.true in
-    omega (arith, n.0, n.3)
+pub slice_bounds-rest-count : goal.slice_bounds-rest-count
+slice_bounds-rest-count g c = (feed_numbers _ _ _ _ _ _ _ c.in-Ok.ensures c.loop-rest.invariant (omega arith)).0
 
-pub loop-at-preserved : goal.loop-at-preserved
-loop-at-preserved g c =
-    let n = fed_rest _ _ _ _ _ _ _ _ _ _ _ c.in-Took.ensures refl c.loop-at.invariant.1 (omega arith) c.loop-at-test.true in
-    (omega (arith, n.0), n.2)
+pub slice_bounds-rest-start : goal.slice_bounds-rest-start
+slice_bounds-rest-start g c = (feed_numbers _ _ _ _ _ _ _ c.in-Ok.ensures c.loop-rest.invariant (omega arith)).0
+
+pub loop-rest-smaller : goal.loop-rest-smaller
+loop-rest-smaller g c =
+    let n = feed_numbers _ _ _ _ _ _ _ c.in-Ok.ensures c.loop-rest.invariant (omega arith) in
+    less_left _ _ (n.3 (search rules)) n.0
+
+pub loop-rest-preserved : goal.loop-rest-preserved
+loop-rest-preserved g c = (feed_numbers _ _ _ _ _ _ _ c.in-Ok.ensures c.loop-rest.invariant (omega arith)).2

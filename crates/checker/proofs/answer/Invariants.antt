@@ -1,9 +1,9 @@
--- The place is within the piece, and the count at most 91; each turn takes something of the piece.
-use Rattle.std.proofs.Common.{◌≤◌, ◌-◌, length}
+-- The count of kept bytes is at most 91, and each turn takes something of the piece.
+use Rattle.std.proofs.Common.{◌≤◌, length}
 use Rattle.checker.proofs.answer.Given as goal
 
-abbrev pub invariant-loop-at : goal.invariant-loop-at
-invariant-loop-at g l = (l.at ≤ length l.piece) × (l.len ≤ 91)
+abbrev pub invariant-loop-rest : goal.invariant-loop-rest
+invariant-loop-rest g l = l.len ≤ 91
 
-abbrev pub decreases-loop-at : goal.decreases-loop-at
-decreases-loop-at g l = length l.piece - l.at
+abbrev pub decreases-loop-rest : goal.decreases-loop-rest
+decreases-loop-rest g l = length l.rest

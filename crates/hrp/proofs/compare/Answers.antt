@@ -1,38 +1,17 @@
--- `compare` gives what the definition gives. The invariant: no difference before i, so the order of what is left is that of the whole.
-use mathlib.Core.Path.{refl}
-use borrow.Author.Rules.{rules}
-use Rattle.hrp.proofs.Ordering.{second_ends, first_ends, both_end, less, greater, more}
+-- `compare` gives what the definition gives: the library compares the folded bytes one after the other.
+use mathlib.Core.Path.{◌≡◌, refl, ◌∙◌}
+use Rattle.std.proofs.Common.{rules, tests}
+use Rattle.std.specs.Char.{to_ascii_lowercase}
+use Rattle.std.specs.Ordering.{nat_cmp}
+use Rattle.std.proofs.lemmas.Iterator.{YieldsList-from_map, YieldsList-from_slice}
+use Rattle.std.proofs.lemmas.Iterator.Search.{cmp_from_yields_List}
+use Rattle.hrp.proofs.Ascii.{folded_order}
 use Rattle.hrp.proofs.compare.Goals as goal
 
-pub loop-i-init : goal.loop-i-init
-loop-i-init c = (search rules, search rules, refl)
-
-pub returns-then-b-i : goal.returns-then-b-i
-returns-then-b-i c = second_ends _ _ c.loop-i.i c.loop-i.invariant.2 c.loop-i-test.true c.if-b-i.true
-
-pub returns-then-x-y : goal.returns-then-x-y
-returns-then-x-y c =
-    let l = c.loop-i in
-    less _ _ l.i l.invariant.2 c.loop-i-test.true c.if-b-i.false
-    _ _ c.lower-x.ensures c.lower-y.ensures c.if-x-y.true
-
-pub returns-then-y-x : goal.returns-then-y-x
-returns-then-y-x c =
-    let l = c.loop-i in
-    greater _ _ l.i l.invariant.2 c.loop-i-test.true c.if-b-i.false
-    _ _ c.lower-x.ensures c.lower-y.ensures c.if-x-y.false c.if-y-x.true
-
-pub loop-i-preserved : goal.loop-i-preserved
-loop-i-preserved c =
-    let l = c.loop-i in (
-      search rules,
-      search rules,
-      more _ _ l.i l.invariant.2 c.loop-i-test.true c.if-b-i.false
-          _ _ c.lower-x.ensures c.lower-y.ensures c.if-x-y.false c.if-y-x.false,
-    )
-
-pub returns-then-i-b : goal.returns-then-i-b
-returns-then-i-b c = first_ends _ _ c.loop-i.i c.loop-i.invariant.2 c.loop-i-test.false c.if-i-b.true
-
 pub returns : goal.returns
-returns c = both_end _ _ c.loop-i.i c.loop-i.invariant.2 c.loop-i-test.false c.if-i-b.false
+returns c =
+    cmp_from_yields_List (λ x y. y ≡ x) _ nat_cmp _ c.cmp.ensures.ran
+    (YieldsList-from_map _ to_ascii_lowercase (YieldsList-from_slice c.args.a.now cc) c.map-a.ensures.closure (λ x r q k. search (rules, tests)))
+    (λ it e. YieldsList-from_map _ to_ascii_lowercase (YieldsList-from_slice c.args.b.now cc) c.map.ensures.closure (λ x r q k. search (rules, tests)))
+    (λ x y. refl)
+    ∙ folded_order c.args.a.now c.args.b.now

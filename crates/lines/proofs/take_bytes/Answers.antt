@@ -5,17 +5,17 @@ use native.Mathlib.Omega.{arith}
 use borrow.Author.Rules.{rules}
 use Rattle.lines.proofs.take_bytes.Goals as goal
 
-pub loop-i-preserved-then-byte-ne-LINE_END : goal.loop-i-preserved-then-byte-ne-LINE_END
-loop-i-preserved-then-byte-ne-LINE_END c =
-    (kept_turn c.args.input.now c.loop-i.line c.loop-i.len c.loop-i.out c.loop-i.written c.loop-i.i _ c.loop-i.invariant.0 c.loop-i-test.true c.if-byte-ne-LINE_END.true _ _ c.keep-len.ensures.0 c.keep-len.ensures.1, search rules, search rules, search rules, search rules, search rules, search rules)
+pub loop-taken-preserved-then-byte-ne-LINE_END : goal.loop-taken-preserved-then-byte-ne-LINE_END
+loop-taken-preserved-then-byte-ne-LINE_END c =
+    (kept_turn c.args.input.now c.loop-taken.line c.loop-taken.len c.loop-taken.out c.loop-taken.written c.loop-taken.taken _ c.loop-taken.invariant.0 c.loop-taken-test.true c.if-byte-ne-LINE_END.true _ _ c.keep-len.ensures.0 c.keep-len.ensures.1, search rules, search rules)
 
 pub returns-then-out-written : goal.returns-then-out-written
 returns-then-out-written c =
-    went_here _ _ _ _ _ _ _ (stopped c.args.input.now c.loop-i.line c.loop-i.len c.loop-i.out c.loop-i.written c.loop-i.i _ c.loop-i.invariant.0 c.loop-i-test.true c.if-byte-ne-LINE_END.false _ _ c.number_of_line-number.ensures c.answer_length.ensures c.if-out-written.true)
+    went_here _ _ _ _ _ _ _ (stopped c.args.input.now c.loop-taken.line c.loop-taken.len c.loop-taken.out c.loop-taken.written c.loop-taken.taken _ c.loop-taken.invariant.0 c.loop-taken-test.true c.if-byte-ne-LINE_END.false _ _ c.number_of_line-number.ensures c.answer_length.ensures c.if-out-written.true)
 
-pub loop-i-preserved : goal.loop-i-preserved
-loop-i-preserved c =
-    (answered_turn c.args.input.now c.loop-i.line c.loop-i.len c.loop-i.out c.loop-i.written c.loop-i.i _ c.loop-i.invariant.0 c.loop-i-test.true c.if-byte-ne-LINE_END.false _ _ c.number_of_line-number.ensures c.answer_length.ensures c.if-out-written.false _ _ c.put-written.ensures, search rules, search rules, omega (arith, digits_length c.number_of_line-number.result), search rules, search rules, search rules)
+pub loop-taken-preserved : goal.loop-taken-preserved
+loop-taken-preserved c =
+    (answered_turn c.args.input.now c.loop-taken.line c.loop-taken.len c.loop-taken.out c.loop-taken.written c.loop-taken.taken _ c.loop-taken.invariant.0 c.loop-taken-test.true c.if-byte-ne-LINE_END.false _ _ c.number_of_line-number.ensures c.answer_length.ensures c.if-out-written.false _ _ c.put-written.ensures, search rules, omega (arith, digits_length c.number_of_line-number.result))
 
 pub returns : goal.returns
-returns c = went_here _ _ _ _ _ _ _ (all_taken c.args.input.now c.loop-i.line c.loop-i.len c.loop-i.out c.loop-i.written c.loop-i.i _ c.loop-i.invariant.0 c.loop-i-test.false)
+returns c = went_here _ _ _ _ _ _ _ (all_taken c.args.input.now c.loop-taken.line c.loop-taken.len c.loop-taken.out c.loop-taken.written c.loop-taken.taken _ c.loop-taken.invariant.0 c.loop-taken-test.false (search rules))

@@ -10,11 +10,11 @@ use Rattle.polynomial.proofs.degree.Goals as goal
 pub returns-in_err-elements : goal.returns-in_err-elements
 unfolding degree_of
 returns-in_err-elements c =
-    let out = exit c.args.p.now c.from_residual.result c.from_residual.ensures.1 c.in_err-elements.ensures in
+    let out = exit c.args.p.now _ c.from_residual.result c.from_residual.ensures.1 c.in_err-elements.ensures in
     out.1 ∙ sym (about_outside c.args.p.now (λ l. Ok (degree l)) out.0)
 
 pub returns : goal.returns
 unfolding degree_of
 returns c =
-    let shown = shown_ok c.args.p.now c.in_ok-elements.ensures in
+    let shown = shown_ok c.args.p.now _ c.in_ok-elements.ensures in
     ap Ok (c.degree_of.ensures ∙ ap degree shown.1) ∙ sym (about_whole c.args.p.now (λ l. Ok (degree l)) shown.0)

@@ -10,30 +10,30 @@ use Rattle.polynomial.proofs.multiply_mod_x_d.Goals as goal
 pub returns-in_err-elements : goal.returns-in_err-elements
 unfolding product_of
 returns-in_err-elements c =
-    let out = exit c.args.p.now c.from_residual.result c.from_residual.ensures.1 c.in_err-elements.ensures in
+    let out = exit c.args.p.now _ c.from_residual.result c.from_residual.ensures.1 c.in_err-elements.ensures in
     out.1 ∙ sym (about_outside c.args.p.now (λ a. about c.args.q.now (λ b. fitting (product_modulo a b c.args.d))) out.0)
 
 pub returns-in_err-elements-2 : goal.returns-in_err-elements-2
 unfolding product_of
 returns-in_err-elements-2 c =
-    let shown = shown_ok c.args.p.now c.in_ok-elements.ensures in
+    let shown = shown_ok c.args.p.now _ c.in_ok-elements.ensures in
     let r = c.from_residual-in_err-elements-2 in
-    let out = exit c.args.q.now r.result r.ensures.1 c.in_err-elements-2.ensures in
+    let out = exit c.args.q.now _ r.result r.ensures.1 c.in_err-elements-2.ensures in
     out.1
     ∙ sym (about_whole c.args.p.now (λ a. about c.args.q.now (λ b. fitting (product_modulo a b c.args.d))) shown.0
     ∙ about_outside c.args.q.now (λ b. let a = elements c.args.p.now in fitting (product_modulo a b c.args.d)) out.0)
 
 pub product_of-requires : goal.product_of-requires
 product_of-requires c =
-    let p = shown_ok c.args.p.now c.in_ok-elements.ensures in
-    let q = shown_ok c.args.q.now c.in_ok-elements-2.ensures in
+    let p = shown_ok c.args.p.now _ c.in_ok-elements.ensures in
+    let q = shown_ok c.args.q.now _ c.in_ok-elements-2.ensures in
     (rw p.1 (elements_short c.args.p.now p.0), rw q.1 (elements_short c.args.q.now q.0))
 
 pub returns : goal.returns
 unfolding product_of
 returns c =
-    let p = shown_ok c.args.p.now c.in_ok-elements.ensures in
-    let q = shown_ok c.args.q.now c.in_ok-elements-2.ensures in
+    let p = shown_ok c.args.p.now _ c.in_ok-elements.ensures in
+    let q = shown_ok c.args.q.now _ c.in_ok-elements-2.ensures in
     c.product_of.ensures ∙ ap₂ (λ a b. fitting (product_modulo a b c.args.d)) p.1 q.1
     ∙ sym (about_whole c.args.p.now (λ a. about c.args.q.now (λ b. fitting (product_modulo a b c.args.d))) p.0
     ∙ about_whole c.args.q.now (λ b. let a = elements c.args.p.now in fitting (product_modulo a b c.args.d)) q.0)

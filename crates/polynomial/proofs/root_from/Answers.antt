@@ -31,13 +31,13 @@ loop-e-init c = (
 pub returns-in_err-elements : goal.returns-in_err-elements
 returns-in_err-elements c =
     let sized = kept_size (elements c.args.p.now) (elements_short c.args.p.now c.requires.0) (power c.args.base c.loop-e.e) c.loop-e.invariant.0 in
-    let over = (shown_err c.loop-e.terms c.in_err-elements.ensures).0 in
+    let over = (shown_err c.loop-e.terms _ c.in_err-elements.ensures).0 in
     absurd (omega (arith, elements_short c.args.p.now c.requires.0))
 
 pub returns-then-total_of-eq0 : goal.returns-then-total_of-eq0
 returns-then-total_of-eq0 c =
     let p = c.args.p.now in
-    let shown = shown_ok c.loop-e.terms c.in_ok-elements.ensures in
+    let shown = shown_ok c.loop-e.terms _ c.in_ok-elements.ensures in
     ap Ok (some_after (elements p) c.args.base c.args.from c.loop-e.e c.loop-e-test.true
     (root_end (elements p) (elements_short p c.requires.0) c.args.base c.loop-e.e c.loop-e.invariant.0
     (c.total_of.ensures ∙ ap (λ l. value_at l 1) shown.1) c.loop-e-test.true c.if-total_of-eq0.true
@@ -46,7 +46,7 @@ returns-then-total_of-eq0 c =
 pub returns-in_err-multiply_pointwise-2 : goal.returns-in_err-multiply_pointwise-2
 returns-in_err-multiply_pointwise-2 c =
     let p = c.args.p.now in
-    let shown = shown_ok c.loop-e.terms c.in_ok-elements.ensures in
+    let shown = shown_ok c.loop-e.terms _ c.in_ok-elements.ensures in
     let turn = root_turn (elements p) (elements_short p c.requires.0) c.args.base c.loop-e.e c.loop-e.invariant.0
     (c.total_of.ensures ∙ ap (λ l. value_at l 1) shown.1) c.loop-e-test.true
     (powers_for p (omega arith) c.requires.0 c.args.base c.in_ok-step.ensures) c.if-total_of-eq0.false in
@@ -55,7 +55,7 @@ returns-in_err-multiply_pointwise-2 c =
 pub loop-e-preserved : goal.loop-e-preserved
 loop-e-preserved c =
     let p = c.args.p.now in
-    let shown = shown_ok c.loop-e.terms c.in_ok-elements.ensures in
+    let shown = shown_ok c.loop-e.terms _ c.in_ok-elements.ensures in
     let turn = root_turn (elements p) (elements_short p c.requires.0) c.args.base c.loop-e.e c.loop-e.invariant.0
     (c.total_of.ensures ∙ ap (λ l. value_at l 1) shown.1) c.loop-e-test.true
     (powers_for p (omega arith) c.requires.0 c.args.base c.in_ok-step.ensures) c.if-total_of-eq0.false in

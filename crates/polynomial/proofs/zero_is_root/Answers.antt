@@ -13,11 +13,11 @@ use Rattle.polynomial.proofs.zero_is_root.Goals as goal
 pub returns-in_err-elements : goal.returns-in_err-elements
 unfolding zero_is_root
 returns-in_err-elements c =
-    let out = exit c.args.p.now c.from_residual.result c.from_residual.ensures.1 c.in_err-elements.ensures in
+    let out = exit c.args.p.now _ c.from_residual.result c.from_residual.ensures.1 c.in_err-elements.ensures in
     out.1 ∙ sym (about_outside c.args.p.now (λ l. Ok (is_root l 0)) out.0)
 
 pub returns : goal.returns
 unfolding zero_is_root
 returns c =
-    let shown = shown_ok c.args.p.now c.in_ok-elements.ensures in
+    let shown = shown_ok c.args.p.now _ c.in_ok-elements.ensures in
     ap Ok (ap (λ (v : ℕ). eqb v 0) (ap (λ (v : ℕ). v % 1024) c.coefficient_at.ensures ∙ sym (value_at_zero c.in_ok-elements.field-0.now)) ∙ ap (λ l. is_root l 0) shown.1) ∙ sym (about_whole c.args.p.now (λ l. Ok (is_root l 0)) shown.0)

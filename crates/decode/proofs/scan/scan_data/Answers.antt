@@ -1,38 +1,17 @@
--- The scan of the data part. The invariant: what lies from `start` on has these joined classes and no separator.
-use Prim.Native.Nat.{◌-◌}
-use native.Mathlib.Omega.{arith}
-use borrow.Author.Rules.{rules}
-use Rattle.decode.proofs.Scanning.{nothing_yet, joined_back, none_more, stopped, ended}
+use Rattle.std.proofs.Common.{◌∙◌, arith}
+use Rattle.decode.proofs.Scanning.{none_more, stopped, ended}
 use Rattle.decode.proofs.scan.scan_data.Goals as goal
 
-pub loop-start-init : goal.loop-start-init
-loop-start-init c = (search rules, nothing_yet c.args.s.now)
+pub loop-at-preserved : goal.loop-at-preserved
+loop-at-preserved c = (
+  none_more _ _ _ _ _ _ c.type_inv.s c.in-Some.ensures.steps.1.0 c.class-classes.ensures c.if-byte-eq-SEPARATOR.false c.loop-at.invariant.0,
+  c.in-Some.ensures.steps.0 ∙ c.loop-at.invariant.1,
+)
 
 pub returns-then-byte-eq-SEPARATOR : goal.returns-then-byte-eq-SEPARATOR
 returns-then-byte-eq-SEPARATOR c =
-    stopped c.args.s.now c.loop-start.classes c.loop-start.start
-    (search rules) c.loop-start.invariant.1.0 c.loop-start.invariant.1.1 (search rules) c.if-byte-eq-SEPARATOR.true
-
-pub overflow_cast-classes : goal.overflow_cast-classes
-overflow_cast-classes c = record { fits = omega (arith, c.shared_slice_known-1.given (c.loop-start.start - 1)) }
-
-pub bounds-table-byte : goal.bounds-table-byte
-bounds-table-byte c = omega (arith, c.shared_slice_known-1.given (c.loop-start.start - 1))
-
-pub loop-start-preserved : goal.loop-start-preserved
-loop-start-preserved c = (
-  search rules,
-  (
-    joined_back c.args.table.now c.args.s.now
-        c.loop-start.start c.loop-start.classes c.requires
-        (search rules) (search rules) (c.shared_slice_known-1.given (c.loop-start.start - 1)).fits
-        c.loop-start.invariant.1.0,
-    none_more c.args.s.now c.loop-start.start (search rules) (search rules)
-        c.if-byte-eq-SEPARATOR.false c.loop-start.invariant.1.1,
-  ),
-)
+    stopped _ _ _ _ _ _ c.in-Some.ensures.steps.1.0 (omega (arith, c.in-Some.ensures.steps.1.1, c.loop-at.invariant.1))
+    c.if-byte-eq-SEPARATOR.true c.loop-at.invariant.0
 
 pub returns : goal.returns
-returns c =
-    ended c.args.s.now c.loop-start.classes c.loop-start.start
-    (search rules) c.loop-start.invariant.1.0 c.loop-start.invariant.1.1 (search rules)
+returns c = ended _ _ _ c.in-None.ensures.steps.1.0 c.loop-at.invariant.0

@@ -1,15 +1,7 @@
--- The scan of the data part. The invariant: what lies from `start` on has these joined classes and no separator.
-use mathlib.Core.Path.{◌≡◌}
-use mathlib.Core.Bool.{false}
-use Prim.Native.Nat.{◌≤◌}
-use lib.ListN.{length, drop}
-use Rattle.laws.specs.Lists.{any}
-use Rattle.paper.specs.Charset.{is_separator}
-use Rattle.gf32.specs.Classes.{Joined}
+-- What lies behind the characters that are left has these joined classes and no separator, and places are counted from the string's start.
+use Rattle.std.proofs.Common.{◌≡◌}
+use Rattle.decode.proofs.Scanning.{NonePassed}
 use Rattle.decode.proofs.scan.scan_data.Given as goal
 
-abbrev pub invariant-loop-start : goal.invariant-loop-start
-invariant-loop-start l = (l.start ≤ length l.s) × (Joined l.classes (drop l.start l.s) × (any is_separator (drop l.start l.s) ≡ false))
-
-abbrev pub decreases-loop-start : goal.decreases-loop-start
-decreases-loop-start l = l.start
+abbrev pub invariant-loop-at : goal.invariant-loop-at
+invariant-loop-at l = NonePassed l.s l.at-iterator.iter.iter.rest.now l.classes × (l.at-iterator.iter.count ≡ 0)

@@ -1,13 +1,12 @@
 -- Too small a room is refused with the buffer as it was; otherwise the symbols stand in front.
 use mathlib.Core.Path.{sym}
-use mathlib.Core.List.{map}
-use lib.ListN.{length, length-map}
+use lib.ListN.{length-map}
 use Rattle.paper.specs.Charset.{symbol}
 use Rattle.iter.proofs.Answers.{no_room, room}
 use Rattle.decode.proofs.symbols.put_symbols.Goals as goal
 
 pub returns-then-out-characters : goal.returns-then-out-characters
-returns-then-out-characters c = no_room (map symbol c.args.characters.now) c.args.out.now (length c.args.characters.now) (sym (length-map c.args.characters.now symbol)) c.if-out-characters.true
+returns-then-out-characters c = no_room _ _ _ (sym (length-map c.args.characters.now symbol)) c.if-out-characters.true
 
 pub returns : goal.returns
-returns c = room (map symbol c.args.characters.now) c.args.out.now (length c.args.characters.now) (sym (length-map c.args.characters.now symbol)) c.if-out-characters.false _ c.fill_symbols.ensures
+returns c = room _ _ _ (sym (length-map c.args.characters.now symbol)) c.if-out-characters.false _ c.fill_symbols.ensures

@@ -13,19 +13,19 @@ use Rattle.fieldvec.proofs.FieldVec.multiply_pointwise.Goals as goal
 pub returns-in_err-factors : goal.returns-in_err-factors
 returns-in_err-factors c =
     let r = c.from_residual in
-    let out = exit c.args.other.now r.result r.ensures.1 c.in_err-factors.ensures in
+    let out = exit c.args.other.now _ r.result r.ensures.1 c.in_err-factors.ensures in
     refuses c.args.self.now out.1 (multiplied_refused c.args.self.now c.args.other.now (λ h e. omega (arith, out.0)))
 
 pub returns-in_err-elements : goal.returns-in_err-elements
 returns-in_err-elements c =
     let r = c.from_residual-in_err-elements in
-    let out = exit c.args.self.now r.result r.ensures.1 c.in_err-elements.ensures in
+    let out = exit c.args.self.now _ r.result r.ensures.1 c.in_err-elements.ensures in
     refuses c.args.self.now out.1 (multiplied_refused c.args.self.now c.args.other.now (λ h e. omega (arith, out.0)))
 
 pub returns-then-elements-factors : goal.returns-then-elements-factors
 returns-then-elements-factors c =
-    let shown = shown_ok c.args.self.now c.in_ok-elements.ensures in
-    let other = shown_ok c.args.other.now c.in_ok-factors.ensures in
+    let shown = shown_ok c.args.self.now _ c.in_ok-elements.ensures in
+    let other = shown_ok c.args.other.now _ c.in_ok-factors.ensures in
     let unlike = rw (shown.1, other.1) at c.if-elements-factors.true in
     refuses c.args.self.now refl
     (multiplied_refused c.args.self.now c.args.other.now
@@ -33,13 +33,13 @@ returns-then-elements-factors c =
 
 pub listed_by-requires-clause-room : goal.listed_by-requires-clause-room
 listed_by-requires-clause-room c =
-    let shown = shown_ok c.args.self.now c.in_ok-elements.ensures in
+    let shown = shown_ok c.args.self.now _ c.in_ok-elements.ensures in
     rw shown.1 (elements_short c.args.self.now shown.0)
 
 pub returns : goal.returns
 returns c =
-    let shown = shown_ok c.args.self.now c.in_ok-elements.ensures in
-    let other = shown_ok c.args.other.now c.in_ok-factors.ensures in
+    let shown = shown_ok c.args.self.now _ c.in_ok-elements.ensures in
+    let other = shown_ok c.args.other.now _ c.in_ok-factors.ensures in
     let s = c.in_ok-elements.elements.now in
     let t = c.in_ok-factors.factors.now in
     let room : length s ≤ 7 = rw shown.1 (elements_short c.args.self.now shown.0) in

@@ -9,23 +9,23 @@ use Rattle.fieldvec.proofs.FieldVec.pop_front.Goals as goal
 
 pub returns-in_err-elements : goal.returns-in_err-elements
 returns-in_err-elements c =
-    let out = exit c.args.self.now c.from_residual.result c.from_residual.ensures.1 c.in_err-elements.ensures in
+    let out = exit c.args.self.now _ c.from_residual.result c.from_residual.ensures.1 c.in_err-elements.ensures in
     refuses c.args.self.now out.1 (popped_front_outside c.args.self.now out.0)
 
 pub returns-in_default : goal.returns-in_default
 returns-in_default c =
-    let shown = shown_ok c.args.self.now c.in_ok-elements.ensures in
+    let shown = shown_ok c.args.self.now _ c.in_ok-elements.ensures in
     refuses c.args.self.now refl (popped_front_none c.args.self.now (omega arith) shown.0 (rw shown.1 at c.in_default.ensures.cases))
 
 pub listed_by-requires-clause-room : goal.listed_by-requires-clause-room
 listed_by-requires-clause-room c =
-    let shown = shown_ok c.args.self.now c.in_ok-elements.ensures in
+    let shown = shown_ok c.args.self.now _ c.in_ok-elements.ensures in
     let places = rw shown.1 at c.in-Some.ensures.cases.1 in
     omega (arith, elements_short c.args.self.now shown.0)
 
 pub returns : goal.returns
 returns c =
-    let shown = shown_ok c.args.self.now c.in_ok-elements.ensures in
+    let shown = shown_ok c.args.self.now _ c.in_ok-elements.ensures in
     let places = rw shown.1 at c.in-Some.ensures.cases.1 in
     changes c.args.self.now
     (popped_front_first c.args.self.now (omega arith) shown.0 c.in-Some.rest.now c.in-Some.first.now c.widened-value.result c.listed_by.result

@@ -13,17 +13,17 @@ use Rattle.fieldvec.proofs.FieldVec.reverse.Goals as goal
 
 pub returns-in_err-elements : goal.returns-in_err-elements
 returns-in_err-elements c =
-    let out = exit c.args.self.now c.from_residual.result c.from_residual.ensures.1 c.in_err-elements.ensures in
+    let out = exit c.args.self.now _ c.from_residual.result c.from_residual.ensures.1 c.in_err-elements.ensures in
     refuses c.args.self.now out.1 (reversed_outside c.args.self.now out.0)
 
 pub listed_by-requires-clause-room : goal.listed_by-requires-clause-room
 listed_by-requires-clause-room c =
-    let shown = shown_ok c.args.self.now c.in_ok-elements.ensures in
+    let shown = shown_ok c.args.self.now _ c.in_ok-elements.ensures in
     rw shown.1 (elements_short c.args.self.now shown.0)
 
 pub returns : goal.returns
 returns c =
-    let shown = shown_ok c.args.self.now c.in_ok-elements.ensures in
+    let shown = shown_ok c.args.self.now _ c.in_ok-elements.ensures in
     let l = c.in_ok-elements.elements.now in
     let room : length l ≤ 7 = rw shown.1 (elements_short c.args.self.now shown.0) in
     changes c.args.self.now

@@ -1,6 +1,0 @@
--- Between the first character and the last six.
-use Rattle.decode.proofs.Asked.{program_there}
-use Rattle.decode.proofs.program_of.Goals as goal
-
-pub returns : goal.returns
-returns c = program_there c.args.characters.now c.requires

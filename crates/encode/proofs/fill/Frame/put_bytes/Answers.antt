@@ -1,0 +1,23 @@
+-- The symbols of the bytes are laid into the buffer, and `finish` makes the string of them.
+use Prim.Native.Nat.{◌+◌}
+use lib.ListN.{length}
+use Rattle.paper.specs.Bits.{to_symbols}
+use Rattle.checksum.specs.Parameters.{constant_for}
+use Rattle.iter.proofs.Lengths.{symbols_below}
+use Rattle.encode.proofs.Laying.{laid_regrouped, laid_ready, laid_finished}
+use borrow.Author.Rules.{rules}
+use Rattle.encode.proofs.fill.Frame.put_bytes.Goals as goal
+
+pub finish-requires : goal.finish-requires
+finish-requires c =
+    let a = c.args in
+    laid_ready a.self.prefix.now (to_symbols a.bytes.now) a.out.now _ c.symbols_for_bytes.ensures c.requires _
+    (laid_regrouped (length a.self.prefix.now + 1) (to_symbols a.bytes.now) a.out.now _ c.bytes_to_symbols.new.out (search rules) c.bytes_to_symbols.ensures)
+    (symbols_below a.bytes.now)
+
+pub returns : goal.returns
+returns c =
+    let a = c.args in
+    laid_finished a.self.prefix.now (to_symbols a.bytes.now) a.out.now _ c.symbols_for_bytes.ensures c.requires _
+    (laid_regrouped (length a.self.prefix.now + 1) (to_symbols a.bytes.now) a.out.now _ c.bytes_to_symbols.new.out (search rules) c.bytes_to_symbols.ensures)
+    (constant_for a.self.checksum) _ c.finish.ensures
