@@ -72,7 +72,7 @@ fn high_of(x: u32) -> u8
 fn pack(a0: u8, a1: u8) -> u32
     ensures { result ≡ packed a0 a1 }
 {
-    (a0 as u32) + 32 * (a1 as u32)
+    u32::from(a0) + 32 * u32::from(a1)
 }
 
 // The constant is the paper's element; nothing else here names it.

@@ -71,15 +71,11 @@ pub fn convolution(p: &FieldVec, q: &FieldVec) -> Result<FieldVec, Refusal>
 pub fn from_residue(residue: u32) -> FieldVec
     ensures { FromResidue residue result }
 {
-    let items = [
-        low_symbol(residue),
-        low_symbol(residue / 32),
-        low_symbol(residue / 1024),
-        low_symbol(residue / 32768),
-        low_symbol(residue / 1048576),
-        low_symbol(residue / 33554432),
-        0,
-    ];
+    let items = array::from_fn(|i| if i < 6 {
+        low_symbol(residue >> (5 * i))
+    } else {
+        0
+    });
     FieldVec { items, len: 6 }
 }
 
