@@ -56,7 +56,7 @@ pub fn data_part(checksum: Checksum, s: &[u8]) -> &[u8]
     }
 }
 
-// The prefix, likewise.
+// The prefix, likewise. Two functions, as each half has a promise of its own; one over which half would be no plainer.
 pub fn prefix_part(checksum: Checksum, s: &[u8]) -> &[u8]
     ensures { PrefixPartGiven checksum s.entry.ref_ptr s.now result.ref_ptr result.now }
 {

@@ -26,7 +26,8 @@ pub fn write_symbols(
     Ok(length)
 }
 
-// Generic writing of bytes: of their symbols.
+// Generic writing of bytes: of their symbols. As in the other writers the answer comes first; what is laid then differs (fill says why by three
+// functions).
 pub fn write_bytes(
     checksum: Checksum,
     prefix: &[u8],
@@ -54,6 +55,7 @@ pub fn write_address(
     Ok(length)
 }
 
+// The two versions that have names of their own, each with its promise.
 pub fn write_address_v0(prefix: &[u8], program: &[u8], out: &mut [u8]) -> Result<usize, Refusal>
     ensures { Version0Written prefix.now program.now out.old result out.new }
 {
