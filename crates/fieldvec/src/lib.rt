@@ -16,7 +16,8 @@ use numbers::Refusal;
 pub const CAPACITY: usize = 7;
 
 // The first `len` of the stored numbers are the list: an array with a count, since there is no heap. The fields are public, so `len` may be
-// over the capacity: push then answers that the list is full, and every other function refuses it as a place outside.
+// over the capacity: push then answers that the list is full, and every other function refuses it as a place outside. No ghost field rules
+// that out, since callers may pass such a list and are promised the refusal.
 #[derive(Clone, Copy)]
 pub struct FieldVec {
     pub items: [u16; CAPACITY],
