@@ -2,11 +2,14 @@
 // crate lines, which is proved; here are only the calls that read and write.
 #![tactic(auto)]
 
-ghost use Rattle.std.specs.Prelude.{◌≤◌, length, IfOk};
+ghost use Rattle.std.specs.Prelude.{◌≤◌};
 
 use lines::{KEPT, Line};
 use std::fmt;
 use std::io::Read;
+
+// So many bytes of input are read at once, and there is room for so many of output.
+const ROOM: usize = 65536;
 
 // Why a run stops with answers missing.
 #[derive(Clone, Copy)]
@@ -40,58 +43,64 @@ fn main(rt: HostRuntime) {
 
 // Piece by piece to the end of the input. Each piece's answers are written before more is read.
 fn run(rt: &(impl Input + Print)) -> Result<(), Failure> {
-    let mut line = [0u8; KEPT];
-    let mut piece = [0u8; 65536];
-    let mut out = [0u8; 65536];
+    let mut kept = Kept {
+        line: [0; KEPT],
+        len: 0,
+    };
+    let mut piece = [0u8; ROOM];
+    let mut out = [0u8; ROOM];
     let mut input = rt.reader();
-    let mut len = 0;
     for _ in 0..u64::MAX {
         let Ok(n) = input.read(&mut piece) else {
             return Err(Failure::Reading);
         };
         if n == 0 {
-            return finish(rt, &line, len, &mut out);
+            return kept.finish(rt, &mut out);
         }
-        len = answer(rt, &piece[..n], &mut line, len, &mut out)?;
+        kept.answer(rt, &piece[..n], &mut out)?;
     }
     Err(Failure::InputLong)
 }
 
-// All answers of a piece; what comes back is the count of bytes that are kept of its last line.
-fn answer(
-    rt: &impl Print,
-    piece: &[u8],
-    line: &mut [u8],
-    kept: usize,
-    out: &mut [u8],
-) -> Result<usize, Failure>
-    requires { (91 ≤ length line.old) × (3 ≤ length out.old) × (kept ≤ 91) }
-    ensures { IfOk result (λ len. len ≤ 91) }
-{
-    let mut len = kept;
-    let mut rest = piece;
-    while !rest.is_empty() {
-        let Ok(fed) = lines::feed(rest, line, Line { len }, out) else {
-            return Err(Failure::Writing);
-        };
-        if rt.write_all(&out[..fed.written]).is_err() {
-            return Err(Failure::Writing);
-        }
-        len = fed.len;
-        rest = &rest[fed.taken..];
-    }
-    Ok(len)
+// What is kept of the last line between two pieces.
+#[derive(Drop)]
+struct Kept {
+    line: [u8; KEPT],
+    len: usize,
+    ghost few: { len ≤ 91 },
 }
 
-// The last line's answer, if it had no line end.
-fn finish(rt: &impl Print, line: &[u8], len: usize, out: &mut [u8]) -> Result<(), Failure>
-    requires { (91 ≤ length line.now) × (3 ≤ length out.old) × (len ≤ 91) }
-{
-    let Ok(n) = lines::finish(line, Line { len }, out) else {
-        return Err(Failure::LastAnswer);
-    };
-    if rt.write_all(&out[..n]).is_err() {
-        return Err(Failure::WritingLast);
+impl Kept {
+    // All answers of a piece.
+    fn answer(
+        &mut self,
+        rt: &impl Print,
+        piece: &[u8],
+        out: &mut [u8; ROOM],
+    ) -> Result<(), Failure> {
+        let mut rest = piece;
+        while !rest.is_empty() {
+            let Ok(fed) = lines::feed(rest, &mut self.line, Line { len: self.len }, out) else {
+                return Err(Failure::Writing);
+            };
+            if rt.write_all(&out[..fed.written]).is_err() {
+                return Err(Failure::Writing);
+            }
+            self.len = fed.len;
+            rest = &rest[fed.taken..];
+        }
+        Ok(())
     }
-    Ok(())
+
+    // The last line's answer, if it had no line end.
+    #[tactic(auto, using(lines::proofs::Whole::finish_numbers))]
+    fn finish(&self, rt: &impl Print, out: &mut [u8; ROOM]) -> Result<(), Failure> {
+        let Ok(n) = lines::finish(&self.line, Line { len: self.len }, out) else {
+            return Err(Failure::LastAnswer);
+        };
+        if rt.write_all(&out[..n]).is_err() {
+            return Err(Failure::WritingLast);
+        }
+        Ok(())
+    }
 }

@@ -201,22 +201,22 @@ module _ (s line : List ℕ) (len : ℕ) (out : List ℕ) where
 
     -- nothing of a piece that is not empty was taken: it is stuck, and all is as it was
     pub fed_stuck : (p : Fed) (line' out' : List ℕ) → (length s ≡ 0 → ⊥) → WentOn s (standing 0 line k out 0) p line' out' → p.taken ≡ 0
-        → WasFed s line len out (Err RoomSmall) line' out'
-    fed_stuck p line' out' some w z =
+        → (left : List ℕ) → left ≡ line' → WasFed s line len out (Err RoomSmall) left out'
+    fed_stuck p line' out' some w z left same_bytes =
         record {
           answer = rw (wide_refused, taken_nothing s (standing 0 line k out 0) some (ap (λ (q : Fed). q.taken) (sym w.answer) ∙ z));
-          buffer = rw wide w.buffer;
+          buffer = rw wide (same_bytes ∙ w.buffer);
           output = rw wide w.output;
         }
 
     pub fed_on : (p : Fed) (line' out' : List ℕ) → WentOn s (standing 0 line k out 0) p line' out' → (p.taken ≡ 0 → ⊥)
-        → WasFed s line len out (Ok p) line' out'
-    fed_on p line' out' w z =
+        → (left : List ℕ) → left ≡ line' → WasFed s line len out (Ok p) left out'
+    fed_on p line' out' w z left same_bytes =
         record {
           answer =
               rw (wide_refused, taken_something s (standing 0 line k out 0) (λ q. z (ap (λ (q : Fed). q.taken) w.answer ∙ q)), wide)
               (ap Ok w.answer);
-          buffer = rw wide w.buffer;
+          buffer = rw wide (same_bytes ∙ w.buffer);
           output = rw wide w.output;
         }
 

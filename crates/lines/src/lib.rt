@@ -51,7 +51,7 @@ pub fn feed(input: &[u8], line: &mut [u8], state: Line, out: &mut [u8]) -> Resul
             len,
         });
     }
-    let fed = take_bytes(input, line, len, out);
+    let fed = take_bytes(input, &mut Kept { line, len }, out);
     if fed.taken == 0 {
         return Err(Refusal::RoomSmall);
     }
@@ -70,7 +70,7 @@ pub fn finish(line: &[u8], state: Line, out: &mut [u8]) -> Result<usize, Refusal
     if len == 0 {
         return Ok(0);
     }
-    let number = number_of_line(line, len);
+    let number = number_of_line(&line[..len]);
     if out.len() < answer_length(number) {
         return Err(Refusal::RoomSmall);
     }
@@ -85,55 +85,71 @@ fn kept_count(len: usize) -> usize
     len.min(KEPT)
 }
 
+// The bytes of a line that is not ended yet, at the front of a line buffer that has room for as many as are kept.
+#[derive(Drop)]
+struct Kept<'a> {
+    line: &'a mut [u8],
+    len: usize,
+    ghost room: { 91 ≤ length line.now },
+    ghost few: { len ≤ 91 },
+}
+
+impl<'a> Kept<'a> {
+    // A byte behind the kept ones, while there are fewer than enough.
+    #[tactic(auto, unfolding(crate::specs::Feeding::count_with, crate::specs::Feeding::line_with))]
+    fn keep(&mut self, byte: u8)
+        ensures same_buffer { self.new.line.ghost_name ≡ self.old.line.ghost_name }
+        ensures count { self.new.len ≡ count_with self.old.len }
+        ensures bytes { self.new.line.now ≡ line_with byte self.old.line.now self.old.len }
+    {
+        if self.len < KEPT {
+            self.line[self.len] = byte;
+            self.len += 1;
+        }
+    }
+
+    // The number of the address that the kept bytes are.
+    fn number(&self) -> u8
+        ensures { result ≡ number_in (address_verdict (take self.now.len self.now.line.now)) }
+    {
+        number_of_line(&self.line[..self.len])
+    }
+}
+
 // Byte by byte: a line end is answered, any other byte is kept.
-fn take_bytes(input: &[u8], line: &mut [u8], kept: usize, out: &mut [u8]) -> Fed
-    requires { (91 ≤ length line.old) × (kept ≤ 91) }
-    ensures { WentOn input.now (standing 0 line.old kept out.old 0) result line.new out.new }
+fn take_bytes(input: &[u8], kept: &mut Kept, out: &mut [u8]) -> Fed
+    ensures same_buffer { kept.new.line.ghost_name ≡ kept.old.line.ghost_name }
+    ensures went_on { WentOn input.now (standing 0 kept.old.line.now kept.old.len out.old 0) result kept.new.line.now out.new }
 {
-    let mut len = kept;
     let mut written = 0;
     for (taken, &byte) in input.iter().enumerate() {
         if byte != LINE_END {
-            len = keep(byte, line, len);
+            kept.keep(byte);
             continue;
         }
-        let number = number_of_line(line, len);
+        let number = kept.number();
         if out.len() - written < answer_length(number) {
             return Fed {
                 taken,
                 written,
-                len,
+                len: kept.len,
             };
         }
         written = put(number, out, written);
-        len = 0;
+        kept.len = 0;
     }
     Fed {
         taken: input.len(),
         written,
-        len,
+        len: kept.len,
     }
 }
 
-// A byte behind the kept ones, while there are fewer than enough.
-#[tactic(auto, unfolding(crate::specs::Feeding::count_with, crate::specs::Feeding::line_with))]
-fn keep(byte: u8, line: &mut [u8], len: usize) -> usize
-    requires { (91 ≤ length line.old) × (len ≤ 91) }
-    ensures { (result ≡ count_with len) × (line.new ≡ line_with byte line.old len) × (result ≤ 91) }
+// The number of the address that a line is.
+fn number_of_line(line: &[u8]) -> u8
+    ensures { result ≡ number_in (address_verdict line.now) }
 {
-    if KEPT <= len {
-        return len;
-    }
-    line[len] = byte;
-    len + 1
-}
-
-// The number of the address that the kept bytes are.
-fn number_of_line(line: &[u8], len: usize) -> u8
-    requires { len ≤ length line.now }
-    ensures { result ≡ number_in (address_verdict (take len line.now)) }
-{
-    numbers::number_in(decode::check_address(&line[..len]))
+    numbers::number_in(decode::check_address(line))
 }
 
 // One digit or two, and a line end.

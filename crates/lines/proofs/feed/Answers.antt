@@ -19,10 +19,10 @@ pub returns-then-fed-eq0 : goal.returns-then-fed-eq0
 returns-then-fed-eq0 c =
     let a = c.args in
     fed_stuck a.input.now a.line.now a.state.len a.out.now _ c.kept_count-len.ensures.value c.if-line-lt-KEPT.false
-    _ _ _ (search rules) c.take_bytes-fed.ensures c.if-fed-eq0.true
+    _ _ _ (search rules) c.take_bytes-fed.ensures.went_on c.if-fed-eq0.true _ (search rules)
 
 pub returns : goal.returns
 returns c =
     let a = c.args in
     fed_on a.input.now a.line.now a.state.len a.out.now _ c.kept_count-len.ensures.value c.if-line-lt-KEPT.false
-    _ _ _ c.take_bytes-fed.ensures c.if-fed-eq0.false
+    _ _ _ c.take_bytes-fed.ensures.went_on c.if-fed-eq0.false _ (search rules)

@@ -8,5 +8,7 @@ use Rattle.lines.proofs.take_bytes.Given as goal
 
 abbrev pub invariant-loop-taken : goal.invariant-loop-taken
 invariant-loop-taken l =
-    (fed_from (drop l.taken l.input) (standing l.taken l.line l.len l.out l.written) ≡ fed_from l.input (standing 0 l.initial.line l.kept l.initial.out 0))
-    × (l.len ≤ 91) × (l.written ≤ length l.out)
+    (fed_from (drop l.taken l.input) (standing l.taken l.kept.line.now l.kept.len l.out l.written)
+    ≡ fed_from l.input (standing 0 l.initial.kept.line.now l.initial.kept.len l.initial.out 0))
+    × (l.kept.line.ghost_name ≡ l.initial.kept.line.ghost_name)
+    × (l.written ≤ length l.out)
