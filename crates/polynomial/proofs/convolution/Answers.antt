@@ -26,9 +26,8 @@ returns-in_err-elements-2 c =
 
 pub convolution_of-requires : goal.convolution_of-requires
 convolution_of-requires c =
-    let p = shown_ok c.args.p.now _ c.in_ok-elements.ensures in
     let q = shown_ok c.args.q.now _ c.in_ok-elements-2.ensures in
-    (rw p.1 (elements_short c.args.p.now p.0), rw q.1 (elements_short c.args.q.now q.0))
+    rw q.1 (elements_short c.args.q.now q.0)
 
 pub returns : goal.returns
 unfolding convolution_of
