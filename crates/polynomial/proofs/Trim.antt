@@ -7,7 +7,7 @@ use native.Mathlib.Nat.{not-suc-le-zero, le_of_suc-le-suc, zero-lt-suc}
 use native.Mathlib.Omega.{arith}
 use borrow.Author.Tests.{eq-eqb, ne_eqb, eqb-true}
 use lib.Dec.{eqb}
-use lib.ListN.{length, take, drop, get_or, replicate, length-drop, take-append-drop, get_or-eq_default}
+use lib.ListN.{length, take, drop, get_or, replicate, length-drop, take-append-drop}
 use lib.Seq.{length-take-le}
 use Rattle.std.specs.Prelude.{Option, Some, None}
 use Rattle.std.specs.Option.{option_map_or}
@@ -16,7 +16,7 @@ use Rattle.laws.specs.Lists.{all}
 use Rattle.laws.proofs.Bools.{and_first, and_second, and_false}
 use Rattle.fieldvec.specs.declared.FieldVec.{FieldVec}
 use Rattle.fieldvec.specs.Lists.{listed}
-use Rattle.fieldvec.proofs.Build.{made, listed_is}
+use Rattle.fieldvec.proofs.Build.{made, listed_filled}
 use Rattle.gf32_ext.specs.Field.{sum, product}
 use Rattle.gf32_ext.proofs.Field.{product_zero, sum_self}
 use Rattle.polynomial.specs.Polynomials.{trimmed, value_at}
@@ -118,16 +118,7 @@ trimmed_long (suc n) (c ∷ cs) e =
 -- seven numbers that are those of a list, and zeros past its end
 pub trimmed_filled : (items l : List ℕ) → length items ≡ 7 → length l ≤ 7 → ((k : ℕ) → k < 7 → get_or items k 0 ≡ get_or l k 0) → trimmed items ≡ trimmed l
 trimmed_filled items l seven h at =
-    ap (λ (t : FieldVec). trimmed t.items)
-    (listed_is (λ k v. v ≡ get_or l k 0) (made items (length l)) (length l) l
-    (record {
-      counted = refl;
-      full = seven;
-      placed = λ k b. at k (omega arith);
-      after = λ k past top. at k top ∙ get_or-eq_default l 0 past;
-    })
-    h refl (λ k v b e. e))
-    ∙ trimmed_padded l (7 - length l)
+    ap (λ (t : FieldVec). trimmed t.items) (listed_filled items l seven h at) ∙ trimmed_padded l (7 - length l)
 
 -- ---- what is left out does not change the value
 

@@ -7,7 +7,7 @@ use borrow.Author.Rules.{rules}
 use lib.ListN.{get_or, drop}
 use Rattle.fieldvec.specs.Lists.{listed}
 use Rattle.polynomial.specs.Polynomials.{multiple, multiples, derivative}
-use Rattle.polynomial.proofs.Made.{from_fn_at}
+use Rattle.fieldvec.proofs.Made.{from_fn_at}
 use Rattle.polynomial.proofs.Trim.{trimmed_filled}
 use Rattle.polynomial.proofs.Values.{multiple_lt, derived_length, derived_at}
 use Rattle.polynomial.proofs.derived.Goals as goal
