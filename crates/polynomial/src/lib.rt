@@ -7,8 +7,8 @@ ghost use Rattle.std.specs.Prelude.{◌≡◌, Ok, ◌++◌, ◌+◌, ◌-◌, �
 ghost use Rattle.laws.specs.Lists.{all};
 ghost use Rattle.gf32_ext.specs.Field.{field_order, power};
 ghost use Rattle.fieldvec.specs.Lists.{capacity, elements, listed};
-ghost use Rattle.polynomial.specs.Polynomials.{degree, value_at, trimmed, multiple, derivative, MultipliesBy};
-ghost use Rattle.polynomial.specs.Products.{coefficient, coefficients_from, product_modulo, convolved};
+ghost use Rattle.polynomial.specs.Polynomials.{degree, value_at, trimmed, multiple, MultipliesBy};
+ghost use Rattle.polynomial.specs.Products.{coefficient, coefficients_from, product_modulo};
 ghost use Rattle.polynomial.specs.Answers.{fitting, group_order, root_after};
 ghost use Rattle.polynomial.specs.Promises.{DegreeGiven, LeadingGiven, ZeroAsked, Evaluated, Derived, Multiplied, Convolved, FromResidue, RootFound};
 
@@ -50,7 +50,8 @@ pub fn evaluate(p: &FieldVec, x: u32) -> Result<u32, Refusal>
 pub fn formal_derivative(p: &FieldVec) -> Result<FieldVec, Refusal>
     ensures { Derived p.now result }
 {
-    Ok(derived(p.elements()?))
+    let s = p.elements()?;
+    Ok(trimmed_list(array::from_fn(|i| narrowed(multiple_of(i + 1, coefficient_at(s, i + 1))))))
 }
 
 // The product modulo x^d. It is too long only if its own coefficients, without zeros at the end, are more than a list has room for.
@@ -64,7 +65,20 @@ pub fn multiply_mod_x_d(p: &FieldVec, q: &FieldVec, d: usize) -> Result<FieldVec
 pub fn convolution(p: &FieldVec, q: &FieldVec) -> Result<FieldVec, Refusal>
     ensures { Convolved p.now q.now result }
 {
-    Ok(convolution_of(p.elements()?, q.elements()?))
+    let a = p.elements()?;
+    let b = q.elements()?;
+    let d = degree_of(a);
+    if b.len() <= d {
+        return Ok(FieldVec {
+            items: [0; CAPACITY],
+            len: 1,
+        });
+    }
+    let n = b.len() - d;
+    Ok(FieldVec {
+        items: coefficients_from(a, b, d, n),
+        len: n,
+    })
 }
 
 // A checksum's residue as a polynomial: its lowest symbol is the constant term.
@@ -125,13 +139,6 @@ fn value_by<F: Fn(u32) -> u32>(s: &[u16], times_x: F) -> u32
         value = gf32_ext::add(times_x(value), u32::from(*c));
     }
     value
-}
-
-fn derived(s: &[u16]) -> FieldVec
-    requires { length s.now ≤ capacity }
-    ensures { result ≡ listed (derivative s.now) }
-{
-    trimmed_list(array::from_fn(|i| narrowed(multiple_of(i + 1, coefficient_at(s, i + 1)))))
 }
 
 // In characteristic 2 an even number of times is zero.
@@ -197,24 +204,6 @@ fn product_of(a: &[u16], b: &[u16], d: usize) -> Result<FieldVec, Refusal>
         Ok(trimmed_list(coefficients_from(a, b, 0, n.min(CAPACITY))))
     } else {
         Err(Refusal::ListFull)
-    }
-}
-
-fn convolution_of(a: &[u16], s: &[u16]) -> FieldVec
-    requires { length s.now ≤ capacity }
-    ensures { result ≡ listed (convolved a.now s.now) }
-{
-    let d = degree_of(a);
-    if s.len() <= d {
-        return FieldVec {
-            items: [0; CAPACITY],
-            len: 1,
-        };
-    }
-    let n = s.len() - d;
-    FieldVec {
-        items: coefficients_from(a, s, d, n),
-        len: n,
     }
 }
 
