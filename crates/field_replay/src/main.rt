@@ -84,15 +84,15 @@ impl<T: fmt::Display> fmt::Display for Answer<T> {
     }
 }
 
-// How many elements, and the elements.
+// How many elements, and the elements. No list here counts more than its capacity.
 #[derive(Clone, Copy)]
 struct Listed(FieldVec);
 
 impl fmt::Display for Listed {
     fn fmt<W: fmt::Write>(&self, f: &mut fmt::Formatter<W>) -> fmt::Result {
         write!(f, "{}", self.0.len)?;
-        for i in 0..self.0.len {
-            write!(f, " {}", Answer(self.0.get(i)))?;
+        for element in self.0.elements().unwrap_or(&[]) {
+            write!(f, " {element}")?;
         }
         Ok(())
     }

@@ -1,3 +1,4 @@
+pub mod Made
 pub mod Build
 pub mod Laws
 pub mod Stored

@@ -1,6 +1,6 @@
 -- Document 01, module 3: a short list, a fixed array with a count; correction.rs bounds it at 7. Answer 25: the list is full; answer 26: it
 -- is empty, a place lies outside it, or lengths are unlike. Both leave the list as it was.
-use Rattle.std.specs.Prelude.{◌≡◌, Bool, true, false, ◌&&◌, ⊤, Result, Ok, Err, List, [], ◌∷◌, ◌++◌, map, reverse, ℕ, ◌+◌, ◌-◌, ◌%◌, ◌<◌, ◌≤◌, leb, ltb, eqb, length, set, get_or, take, drop, replicate}
+use Rattle.std.specs.Prelude.{Bool, true, false, ◌&&◌, ⊤, Result, Ok, Err, List, [], ◌∷◌, ◌++◌, map, reverse, ℕ, ◌+◌, ◌-◌, ◌%◌, ◌<◌, leb, ltb, eqb, length, set, get_or, take, drop, replicate}
 use denote.Ref.{Bor}
 use Rattle.laws.specs.Pick.{pick}
 use Rattle.laws.specs.Lists.{table, Every}
@@ -24,13 +24,6 @@ Narrow t = Every (λ v. v < field_order) t.items
 -- a list for which there is room as a FieldVec, with zeros in the places after it
 abbrev pub listed : List ℕ → FieldVec
 listed l = record { items = l ++ replicate (capacity - length l) 0; len = length l }
-
--- what is given for each place below n stands there, and zeros after it
-pub record ListedBy (gives : ℕ → ℕ → Type 0) (n : ℕ) (t : FieldVec) : Type 0 where
-  pub counted : t.len ≡ n
-  pub full : length t.items ≡ capacity
-  pub placed : (k : ℕ) → k < n → gives k (get_or t.items k 0)
-  pub after : (k : ℕ) → n ≤ k → k < capacity → get_or t.items k 0 ≡ 0
 
 -- ---- what a call gives of an answer that changes a list, and which list it leaves: the one that was, where it refuses
 

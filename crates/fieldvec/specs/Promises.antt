@@ -1,7 +1,6 @@
 -- What each public function promises, and that two answers which keep the promise are equal; for one that changes a list, the lists that it
 -- leaves too.
 use Rattle.std.specs.Prelude.{◌≡◌, Bool, ⊤, Result, List, [], ℕ, ◌%◌}
-use Rattle.std.specs.Result.{result_map_both}
 use denote.Ref.{Bor}
 use Rattle.laws.proofs.Bools.{same}
 use Rattle.numbers.specs.declared.Refusal.{Refusal}

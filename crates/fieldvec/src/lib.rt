@@ -3,14 +3,15 @@
 // GF(1024), so one list serves both.
 #![tactic(auto)]
 
-ghost use Rattle.std.specs.Prelude.{◌≡◌, ◌<◌, ◌≤◌, ◌%◌, ℕ};
+ghost use Rattle.std.specs.Prelude.{◌≡◌, ◌<◌, ◌≤◌, ◌%◌, get_or};
 ghost use Rattle.gf32_ext.specs.Field.{field_order, product, power};
 ghost use Rattle.laws.specs.Lists.{table};
-ghost use Rattle.fieldvec.specs.Lists.{capacity, listed, alike, ListedBy};
+ghost use Rattle.fieldvec.specs.Lists.{capacity, listed, alike};
 ghost use Rattle.fieldvec.specs.Promises.{Emptied, Shown, Pushed, PoppedBack, PoppedFront, Got, Lifted, MultipliedPointwise, PowersGiven, Reversed, Compared, Narrowed};
 
 use gf32_ext::FIELD_ORDER;
 use numbers::Refusal;
+use std::array;
 
 // How many elements a list has room for.
 pub const CAPACITY: usize = 7;
@@ -78,7 +79,11 @@ impl FieldVec {
             return Err(Refusal::ListPlace);
         };
         let value = widened(*first);
-        *self = listed_by(rest.len(), |i| rest[i]);
+        let items = array::from_fn(|i| stored_at(rest, i));
+        *self = FieldVec {
+            items,
+            len: rest.len(),
+        };
         Ok(value)
     }
 
@@ -99,16 +104,22 @@ impl FieldVec {
         if elements.len() != factors.len() {
             return Err(Refusal::ListPlace);
         }
-        *self = listed_by(elements.len(), |i| product(elements[i], factors[i]));
+        let items = array::from_fn(|i| product(stored_at(elements, i), stored_at(factors, i)));
+        *self = FieldVec {
+            items,
+            len: elements.len(),
+        };
         Ok(())
     }
 
+    // What lies past the count becomes zero.
     pub fn reverse(&mut self) -> Result<(), Refusal>
         ensures { Reversed self.old result self.new }
     {
-        let elements = self.elements()?;
-        let n = elements.len();
-        *self = listed_by(n, |i| elements[n - 1 - i]);
+        let n = self.elements()?.len();
+        let (elements, rest) = self.items.split_at_mut(n);
+        elements.reverse();
+        rest.fill(0);
         Ok(())
     }
 
@@ -127,7 +138,11 @@ pub fn lift(symbols: &[u8]) -> Result<FieldVec, Refusal>
     if CAPACITY < symbols.len() {
         return Err(Refusal::ListFull);
     }
-    Ok(listed_by(symbols.len(), |i| u16::from(symbols[i] % 32)))
+    let items = array::from_fn(|i| symbols.get(i).map_or(0, |symbol| u16::from(*symbol % 32)));
+    Ok(FieldVec {
+        items,
+        len: symbols.len(),
+    })
 }
 
 // The first n powers of an element, from its power 0, which is 1.
@@ -160,17 +175,11 @@ fn product(x: u16, y: u16) -> u16
     narrowed(gf32_ext::multiply(u32::from(x), u32::from(y)))
 }
 
-// The n numbers that `element` gives for their places, and zeros after them.
-fn listed_by<F: Fn(usize) -> u16>(n: usize, element: F) -> FieldVec
-    requires room { n ≤ capacity }
-    requires callable { (k : ℕ) → k < n → F.pre element k }
-    ensures { ListedBy (F.post element) n result }
+// Past the end stand zeros.
+fn stored_at(s: &[u16], at: usize) -> u16
+    ensures { result ≡ get_or s.now at 0 }
 {
-    let mut items = [0; CAPACITY];
-    for i in 0..n {
-        items[i] = element(i);
-    }
-    FieldVec { items, len: n }
+    s.get(at).map_or(0, |stored| *stored)
 }
 
 fn first_powers(base: u32, n: usize) -> FieldVec
@@ -178,9 +187,10 @@ fn first_powers(base: u32, n: usize) -> FieldVec
     ensures { result ≡ listed (table (power base) n) }
 {
     let mut items = [0; CAPACITY];
+    let front = &mut items[..n];
     let mut next = 1;
-    for i in 0..n {
-        items[i] = narrowed(next);
+    for item in front.iter_mut() {
+        *item = narrowed(next);
         next = gf32_ext::multiply(base, next);
     }
     FieldVec { items, len: n }

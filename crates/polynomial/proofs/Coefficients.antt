@@ -6,18 +6,20 @@ use Prim.Native.Nat.{ℕ, zero, suc, ◌+◌, ◌-◌, ◌<◌, ◌≤◌, min}
 use native.Mathlib.Numerals.{add-one}
 use native.Mathlib.Nat.{add-zero, zero-add, add-suc, suc-add}
 use native.Mathlib.Omega.{arith}
-use borrow.Author.Tests.{lt-ltb, le-ltb}
-use lib.ListN.{length, take, drop, get_or, replicate}
+use borrow.Author.Tests.{lt-ltb, le-ltb, ltb-true, ltb-false}
+use lib.Dec.{ltb}
+use lib.ListN.{length, take, drop, get_or, replicate, get_or-eq_default}
 use Rattle.std.specs.Prelude.{Ok, Err}
 use Rattle.std.specs.List.{list_all, range_with_len}
 use Rattle.numbers.specs.declared.Refusal.TheVariants.{ListFull}
+use Rattle.laws.specs.Pick.{pick}
 use Rattle.laws.specs.Lists.{all, table_from}
 use Rattle.laws.proofs.Tables.{tabulated}
 use Rattle.gf32_ext.specs.Field.{sum, product}
 use Rattle.gf32_ext.proofs.Field.{sum_lt}
 use Rattle.fieldvec.specs.Lists.{listed}
 use Rattle.fieldvec.specs.declared.FieldVec.{FieldVec}
-use Rattle.fieldvec.proofs.Build.{made, listed_is, table_length}
+use Rattle.fieldvec.proofs.Build.{made, listed_filled, table_length}
 use Rattle.polynomial.specs.Polynomials.{degree, trimmed}
 use Rattle.polynomial.specs.Products.{sum_below, coefficient, coefficients_from, product_modulo, convolved}
 use Rattle.polynomial.specs.Answers.{fitting}
@@ -55,13 +57,16 @@ module _ (a b : List ℕ) (d n : ℕ) where
   unfolding coefficients_from
   from_at j h = tabulated (λ j. coefficient a b (d + j)) n j h
 
+  from_padded : (j : ℕ) (t : Bool) → ltb j n ≡ t → pick t (coefficient a b (d + j)) 0 ≡ get_or (coefficients_from a b d n) j 0
+  from_padded j true e = sym (from_at j (ltb-true j n e))
+  from_padded j false e = sym (get_or-eq_default (coefficients_from a b d n) 0 (omega (arith, ltb-false j n e, from_length)))
+
   -- what is stored for each of seven places
-  pub from_made : (items : List ℕ) → length items ≡ 7 → n ≤ 7 → ((j : ℕ) → j < n → get_or items j 0 ≡ coefficient a b (d + j))
-      → ((j : ℕ) → n ≤ j → j < 7 → get_or items j 0 ≡ 0) → items ≡ coefficients_from a b d n ++ replicate (7 - n) 0
-  from_made items seven h at past =
+  pub from_made : (items : List ℕ) → length items ≡ 7 → n ≤ 7 → ((j : ℕ) → j < 7 → get_or items j 0 ≡ pick (ltb j n) (coefficient a b (d + j)) 0)
+      → items ≡ coefficients_from a b d n ++ replicate (7 - n) 0
+  from_made items seven h at =
       ap (λ (t : FieldVec). t.items)
-      (listed_is (λ j v. v ≡ coefficient a b (d + j)) (made items n) n (coefficients_from a b d n)
-      (record { counted = refl; full = seven; placed = at; after = past }) h from_length (λ j v k e. e ∙ sym (from_at j k)))
+      (listed_filled items (coefficients_from a b d n) seven (omega (arith, from_length)) (λ j k. at j k ∙ from_padded j (ltb j n) refl))
       ∙ ap (λ (k : ℕ). coefficients_from a b d n ++ replicate {A = ℕ} (7 - k) 0) from_length
 
 -- the coefficients that are tested one by one, and those past the seventh place

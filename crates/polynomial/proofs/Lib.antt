@@ -1,7 +1,6 @@
 pub mod Values
 pub mod Places
 pub mod Trim
-pub mod Made
 pub mod About
 pub mod Coefficients
 pub mod Chien

@@ -7,12 +7,12 @@ use native.Mathlib.Nat.{not-suc-le-zero, le_of_suc-le-suc}
 use native.Mathlib.Omega.{arith}
 use borrow.Author.Tests.{eq-eqb, ne_eqb}
 use lib.ListN.{length, drop, get_or}
-use Rattle.std.specs.Prelude.{Option, Some, None}
+use Rattle.std.specs.Prelude.{◌≢◌, Option, Some, None, MatchOption, EachIndex, slice_index}
 use Rattle.std.specs.Option.{unwrap_or}
 use Rattle.laws.specs.Pick.{pick}
 use Rattle.laws.specs.Lists.{all}
 use Rattle.laws.proofs.Bools.{and_false}
-use Rattle.polynomial.specs.Polynomials.{is_zero, degree, LastOf}
+use Rattle.polynomial.specs.Polynomials.{is_zero, degree}
 
 -- a test that fails somewhere fails for the whole list
 pub not_all : (q : ℕ → Bool) (cs : List ℕ) (i : ℕ) → i < length cs → q (get_or cs i 0) ≡ false → all q cs ≡ false
@@ -47,6 +47,12 @@ all_after q [] zero h = refl
 all_after q [] (suc n) h = refl
 all_after q (c ∷ cs) zero h = rw (h 0 (omega arith) (omega arith)) (all_after q cs 0 (λ k _ l. h (suc k) (omega arith) (omega arith)))
 all_after q (c ∷ cs) (suc n) h = all_after q cs n (λ k m l. h (suc k) (omega arith) (omega arith))
+
+-- the last place of a list at which `of` is not zero, if there is one
+abbrev pub LastOf : (ℕ → ℕ) → List ℕ → Option ℕ → Type 0
+LastOf of l r =
+    MatchOption r (EachIndex l (λ k. of (slice_index l k) ≡ 0))
+    (λ i. (i < length l) × (of (slice_index l i) ≢ 0) × ((k : ℕ) → i < k → k < length l → of (slice_index l k) ≡ 0))
 
 -- the degree is that place
 pub degree_last : (cs : List ℕ) (r : Option ℕ) → LastOf (λ v. v % 1024) cs r → unwrap_or r 0 ≡ degree cs

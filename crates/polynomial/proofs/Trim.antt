@@ -7,20 +7,21 @@ use native.Mathlib.Nat.{not-suc-le-zero, le_of_suc-le-suc, zero-lt-suc}
 use native.Mathlib.Omega.{arith}
 use borrow.Author.Tests.{eq-eqb, ne_eqb, eqb-true}
 use lib.Dec.{eqb}
-use lib.ListN.{length, take, drop, get_or, replicate, length-drop, take-append-drop, get_or-eq_default}
+use lib.ListN.{length, take, drop, get_or, replicate, length-drop, take-append-drop}
 use lib.Seq.{length-take-le}
-use Rattle.std.specs.Prelude.{Some, None}
+use Rattle.std.specs.Prelude.{Option, Some, None}
+use Rattle.std.specs.Option.{option_map_or}
 use Rattle.laws.specs.Pick.{pick}
 use Rattle.laws.specs.Lists.{all}
 use Rattle.laws.proofs.Bools.{and_first, and_second, and_false}
 use Rattle.fieldvec.specs.declared.FieldVec.{FieldVec}
 use Rattle.fieldvec.specs.Lists.{listed}
-use Rattle.fieldvec.proofs.Build.{made, listed_is}
+use Rattle.fieldvec.proofs.Build.{made, listed_filled}
 use Rattle.gf32_ext.specs.Field.{sum, product}
 use Rattle.gf32_ext.proofs.Field.{product_zero, sum_self}
-use Rattle.polynomial.specs.Polynomials.{trimmed, value_at, LastOf}
+use Rattle.polynomial.specs.Polynomials.{trimmed, value_at}
 use Rattle.polynomial.proofs.Values.{value_none, value_cons}
-use Rattle.polynomial.proofs.Places.{not_all, all_after}
+use Rattle.polynomial.proofs.Places.{LastOf, not_all, all_after}
 
 abbrev pub none : ℕ → Bool
 none a = eqb a 0
@@ -63,15 +64,14 @@ trimmed_made items n seven h e t = ap₂ made (zeros_after n items e ∙ ap₂ (
     left = ap₂ (λ (a b : ℕ). a - b) seven count
 
 module _ (items : List ℕ) (seven : length items ≡ 7) where
-  pub trimmed_last : (i n : ℕ) → n ≡ suc i → LastOf (λ v. v) items (Some i) → made items n ≡ listed (trimmed items)
-  trimmed_last i n e h =
+  -- the place after the last number other than zero is how many are left
+  pub trimmed_counted : (last : Option ℕ) → LastOf (λ v. v) items last → (n : ℕ) → n ≡ option_map_or suc last 0 → made items n ≡ listed (trimmed items)
+  trimmed_counted (Some i) h n e =
       let rest = all_after none items (suc i) (λ k m l. eq-eqb (get_or items k 0) 0 (h.2 k m l)) in
       ap (made items) e ∙ trimmed_made items (suc i) seven (omega (arith, h.0)) rest (trimmed_at items i h.0 h.1 rest)
-
-  pub trimmed_none : LastOf (λ v. v) items None → made items 0 ≡ listed (trimmed items)
-  trimmed_none h =
+  trimmed_counted None h n e =
       let nothing = all_after none items 0 (λ k _ l. eq-eqb (get_or items k 0) 0 (h k l)) in
-      trimmed_made items 0 seven (omega arith) nothing (trimmed_nothing items nothing)
+      ap (made items) e ∙ trimmed_made items 0 seven (omega arith) nothing (trimmed_nothing items nothing)
 
 replicate_none : (k : ℕ) → all none (replicate k 0) ≡ true
 replicate_none zero = refl
@@ -118,16 +118,7 @@ trimmed_long (suc n) (c ∷ cs) e =
 -- seven numbers that are those of a list, and zeros past its end
 pub trimmed_filled : (items l : List ℕ) → length items ≡ 7 → length l ≤ 7 → ((k : ℕ) → k < 7 → get_or items k 0 ≡ get_or l k 0) → trimmed items ≡ trimmed l
 trimmed_filled items l seven h at =
-    ap (λ (t : FieldVec). trimmed t.items)
-    (listed_is (λ k v. v ≡ get_or l k 0) (made items (length l)) (length l) l
-    (record {
-      counted = refl;
-      full = seven;
-      placed = λ k b. at k (omega arith);
-      after = λ k past top. at k top ∙ get_or-eq_default l 0 past;
-    })
-    h refl (λ k v b e. e))
-    ∙ trimmed_padded l (7 - length l)
+    ap (λ (t : FieldVec). trimmed t.items) (listed_filled items l seven h at) ∙ trimmed_padded l (7 - length l)
 
 -- ---- what is left out does not change the value
 

@@ -1,6 +1,6 @@
 -- Document 01, module 4: polynomials over GF(1024). A list of coefficients c_0, c_1, .. means the sum of c_i x^i; the empty list is the zero
 -- polynomial. A coefficient counts by its remainder modulo the field's order, as every element does.
-use Rattle.std.specs.Prelude.{◌≡◌, ◌≢◌, Bool, Option, MatchOption, List, [], ◌∷◌, reverse, ℕ, zero, suc, ◌%◌, ◌<◌, eqb, length, get_or, slice_index, EachIndex, drop}
+use Rattle.std.specs.Prelude.{◌≡◌, Bool, List, [], ◌∷◌, reverse, ℕ, zero, suc, ◌%◌, ◌<◌, eqb, get_or, drop}
 use Rattle.laws.specs.Pick.{pick}
 use Rattle.laws.specs.Lists.{all}
 use Rattle.paper.specs.Checksum.{six_symbols}
@@ -17,12 +17,6 @@ degree (c ∷ cs) = pick (all is_zero cs) 0 (suc (degree cs))
 -- the coefficient at that place
 unfoldable pub leading : List ℕ → ℕ
 leading cs = get_or cs (degree cs) 0 % field_order
-
--- the last place of a list at which `of` is not zero, if there is one
-abbrev pub LastOf : (ℕ → ℕ) → List ℕ → Option ℕ → Type 0
-LastOf of l r =
-    MatchOption r (EachIndex l (λ k. of (slice_index l k) ≡ 0))
-    (λ i. (i < length l) × (of (slice_index l i) ≢ 0) × ((k : ℕ) → i < k → k < length l → of (slice_index l k) ≡ 0))
 
 -- the sum of c_i x^i over the coefficients given, the first of which is c_k
 unfoldable pub value_from : ℕ → List ℕ → ℕ → ℕ

@@ -3,12 +3,12 @@
 // made stores it as a u16, which loses nothing of it: each is below the field's order.
 #![tactic(auto)]
 
-ghost use Rattle.std.specs.Prelude.{◌≡◌, Ok, ◌++◌, ◌+◌, ◌-◌, ◌*◌, ◌≤◌, ◌<◌, ◌%◌, ℕ, eqb, length, get_or, drop, replicate};
+ghost use Rattle.std.specs.Prelude.{◌≡◌, Ok, ◌++◌, ◌+◌, ◌-◌, ◌≤◌, ◌<◌, ◌%◌, ℕ, eqb, length, get_or, drop, replicate};
 ghost use Rattle.laws.specs.Lists.{all};
 ghost use Rattle.gf32_ext.specs.Field.{field_order, power};
 ghost use Rattle.fieldvec.specs.Lists.{capacity, elements, listed};
-ghost use Rattle.polynomial.specs.Polynomials.{degree, value_at, trimmed, multiple, derivative, LastOf, MultipliesBy};
-ghost use Rattle.polynomial.specs.Products.{coefficient, coefficients_from, product_modulo, convolved};
+ghost use Rattle.polynomial.specs.Polynomials.{degree, value_at, trimmed, multiple, MultipliesBy};
+ghost use Rattle.polynomial.specs.Products.{coefficient, coefficients_from, product_modulo};
 ghost use Rattle.polynomial.specs.Answers.{fitting, group_order, root_after};
 ghost use Rattle.polynomial.specs.Promises.{DegreeGiven, LeadingGiven, ZeroAsked, Evaluated, Derived, Multiplied, Convolved, FromResidue, RootFound};
 
@@ -50,7 +50,8 @@ pub fn evaluate(p: &FieldVec, x: u32) -> Result<u32, Refusal>
 pub fn formal_derivative(p: &FieldVec) -> Result<FieldVec, Refusal>
     ensures { Derived p.now result }
 {
-    Ok(derived(p.elements()?))
+    let s = p.elements()?;
+    Ok(trimmed_list(array::from_fn(|i| narrowed(multiple_of(i + 1, coefficient_at(s, i + 1))))))
 }
 
 // The product modulo x^d. It is too long only if its own coefficients, without zeros at the end, are more than a list has room for.
@@ -64,7 +65,20 @@ pub fn multiply_mod_x_d(p: &FieldVec, q: &FieldVec, d: usize) -> Result<FieldVec
 pub fn convolution(p: &FieldVec, q: &FieldVec) -> Result<FieldVec, Refusal>
     ensures { Convolved p.now q.now result }
 {
-    Ok(convolution_of(p.elements()?, q.elements()?))
+    let a = p.elements()?;
+    let b = q.elements()?;
+    let d = degree_of(a);
+    if b.len() <= d {
+        return Ok(FieldVec {
+            items: [0; CAPACITY],
+            len: 1,
+        });
+    }
+    let n = b.len() - d;
+    Ok(FieldVec {
+        items: coefficients_from(a, b, d, n),
+        len: n,
+    })
 }
 
 // A checksum's residue as a polynomial: its lowest symbol is the constant term.
@@ -98,22 +112,15 @@ pub fn first_root(p: &FieldVec, base: u32, from: usize) -> Result<Option<usize>,
 fn coefficient_at(s: &[u16], k: usize) -> u32
     ensures { result ≡ get_or s.now k 0 }
 {
-    match s.get(k) {
-        Some(c) => u32::from(*c),
-        None => 0,
-    }
+    s.get(k).map_or(0, |c| u32::from(*c))
 }
 
 fn degree_of(s: &[u16]) -> usize
     ensures { result ≡ degree s.now }
 {
-    last_element(s).unwrap_or(0)
-}
-
-fn last_element(s: &[u16]) -> Option<usize>
-    ensures { LastOf (λ v. v % field_order) s.now result }
-{
-    s.iter().rposition(|c| u32::from(*c) % FIELD_ORDER != 0)
+    s.iter()
+        .rposition(|c| u32::from(*c) % FIELD_ORDER != 0)
+        .unwrap_or(0)
 }
 
 fn leading_of(s: &[u16]) -> u32
@@ -134,13 +141,6 @@ fn value_by<F: Fn(u32) -> u32>(s: &[u16], times_x: F) -> u32
     value
 }
 
-fn derived(s: &[u16]) -> FieldVec
-    requires { length s.now ≤ capacity }
-    ensures { result ≡ listed (derivative s.now) }
-{
-    trimmed_list(array::from_fn(|i| narrowed(multiple_of(i + 1, coefficient_at(s, i + 1)))))
-}
-
 // In characteristic 2 an even number of times is zero.
 fn multiple_of(n: usize, c: u32) -> u32
     ensures { result ≡ multiple n c }
@@ -151,17 +151,11 @@ fn multiple_of(n: usize, c: u32) -> u32
 fn trimmed_list(items: [u16; CAPACITY]) -> FieldVec
     ensures { result ≡ listed (trimmed items) }
 {
-    let len = match last_number(&items) {
-        Some(last) => last + 1,
-        None => 0,
-    };
+    let len = items
+        .iter()
+        .rposition(|c| *c != 0)
+        .map_or(0, |last| last + 1);
     FieldVec { items, len }
-}
-
-fn last_number(s: &[u16]) -> Option<usize>
-    ensures { LastOf (λ v. v) s.now result }
-{
-    s.iter().rposition(|c| *c != 0)
 }
 
 fn low_symbol(x: u32) -> u16
@@ -173,11 +167,10 @@ fn low_symbol(x: u32) -> u16
 // ---- two polynomials
 
 fn coefficient_of(a: &[u16], b: &[u16], k: usize) -> u32
-    requires { k < 2 * capacity }
     ensures { result ≡ coefficient a.now b.now k }
 {
     let mut total = 0;
-    for i in 0..k + 1 {
+    for i in 0..=k {
         let crossed = gf32_ext::multiply(coefficient_at(a, i), coefficient_at(b, k - i));
         total = gf32_ext::add(total, crossed);
     }
@@ -198,14 +191,12 @@ fn coefficients_from(a: &[u16], b: &[u16], d: usize, n: usize) -> [u16; CAPACITY
 
 // Whether all coefficients for which a list has no room, of the first n, are zero.
 fn rest_is_zero(a: &[u16], b: &[u16], n: usize) -> bool
-    requires { n ≤ 2 * capacity }
     ensures { result ≡ all (λ c. eqb c 0) (drop capacity (coefficients_from a.now b.now 0 n)) }
 {
     (CAPACITY..n).all(|k| coefficient_of(a, b, k) == 0)
 }
 
 fn product_of(a: &[u16], b: &[u16], d: usize) -> Result<FieldVec, Refusal>
-    requires { (length a.now ≤ capacity) × (length b.now ≤ capacity) }
     ensures { result ≡ fitting (product_modulo a.now b.now d) }
 {
     let n = d.min(a.len() + b.len());
@@ -213,24 +204,6 @@ fn product_of(a: &[u16], b: &[u16], d: usize) -> Result<FieldVec, Refusal>
         Ok(trimmed_list(coefficients_from(a, b, 0, n.min(CAPACITY))))
     } else {
         Err(Refusal::ListFull)
-    }
-}
-
-fn convolution_of(a: &[u16], s: &[u16]) -> FieldVec
-    requires { (length a.now ≤ capacity) × (length s.now ≤ capacity) }
-    ensures { result ≡ listed (convolved a.now s.now) }
-{
-    let d = degree_of(a);
-    if s.len() <= d {
-        return FieldVec {
-            items: [0; CAPACITY],
-            len: 1,
-        };
-    }
-    let n = s.len() - d;
-    FieldVec {
-        items: coefficients_from(a, s, d, n),
-        len: n,
     }
 }
 

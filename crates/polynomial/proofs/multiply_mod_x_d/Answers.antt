@@ -1,6 +1,6 @@
 -- `multiply_mod_x_d` meets its promise, exit by exit.
 use mathlib.Core.Path.{sym, ap₂, ◌∙◌}
-use Rattle.fieldvec.proofs.Laws.{shown_ok, exit, elements_short}
+use Rattle.fieldvec.proofs.Laws.{shown_ok, exit}
 use Rattle.fieldvec.specs.Lists.{elements}
 use Rattle.polynomial.specs.Products.{product_modulo}
 use Rattle.polynomial.specs.Answers.{about, fitting, product_of}
@@ -22,12 +22,6 @@ returns-in_err-elements-2 c =
     out.1
     ∙ sym (about_whole c.args.p.now (λ a. about c.args.q.now (λ b. fitting (product_modulo a b c.args.d))) shown.0
     ∙ about_outside c.args.q.now (λ b. let a = elements c.args.p.now in fitting (product_modulo a b c.args.d)) out.0)
-
-pub product_of-requires : goal.product_of-requires
-product_of-requires c =
-    let p = shown_ok c.args.p.now _ c.in_ok-elements.ensures in
-    let q = shown_ok c.args.q.now _ c.in_ok-elements-2.ensures in
-    (rw p.1 (elements_short c.args.p.now p.0), rw q.1 (elements_short c.args.q.now q.0))
 
 pub returns : goal.returns
 unfolding product_of

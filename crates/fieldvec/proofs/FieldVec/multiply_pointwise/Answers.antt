@@ -1,12 +1,13 @@
 -- `FieldVec::multiply_pointwise` meets its promise, exit by exit.
-use mathlib.Core.Path.{◌≡◌, refl, sym, ap₂, ◌∙◌}
+use mathlib.Core.Path.{refl, sym, ap, ap₂, ◌∙◌}
 use Prim.Native.Nat.{◌≤◌}
 use native.Mathlib.Omega.{arith}
 use borrow.Author.Rules.{rules}
 use lib.ListN.{length, get_or}
 use Rattle.gf32_ext.specs.Field.{product}
 use Rattle.fieldvec.specs.Lists.{listed, pointwise}
-use Rattle.fieldvec.proofs.Build.{listed_is, pointwise_length, pointwise_at}
+use Rattle.fieldvec.proofs.Build.{made, listed_filled, pointwise_length, pointwise_at}
+use Rattle.fieldvec.proofs.Made.{from_fn_at}
 use Rattle.fieldvec.proofs.Laws.{shown_ok, exit, refuses, changes, elements_length, elements_short, multiplied_refused, multiplied_whole}
 use Rattle.fieldvec.proofs.FieldVec.multiply_pointwise.Goals as goal
 
@@ -31,11 +32,6 @@ returns-then-elements-factors c =
     (multiplied_refused c.args.self.now c.args.other.now
     (λ h e. unlike (elements_length c.args.self.now (omega arith) shown.0 ∙ e ∙ sym (elements_length c.args.other.now (omega arith) other.0))))
 
-pub listed_by-requires-clause-room : goal.listed_by-requires-clause-room
-listed_by-requires-clause-room c =
-    let shown = shown_ok c.args.self.now _ c.in_ok-elements.ensures in
-    rw shown.1 (elements_short c.args.self.now shown.0)
-
 pub returns : goal.returns
 returns c =
     let shown = shown_ok c.args.self.now _ c.in_ok-elements.ensures in
@@ -44,9 +40,12 @@ returns c =
     let t = c.in_ok-factors.factors.now in
     let room : length s ≤ 7 = rw shown.1 (elements_short c.args.self.now shown.0) in
     let same = rw (shown.1, other.1) at c.if-elements-factors.false in
+    let long = pointwise_length s t c.if-elements-factors.false in
+    let at = from_fn_at _ (λ i. product (get_or c.in_ok-elements.elements.now i 0) (get_or c.in_ok-factors.factors.now i 0)) _ (λ i r q e. search rules) c.from_fn-items.result 7 c.from_fn-items.ensures.items in
     changes c.args.self.now
-    (multiplied_whole c.args.self.now c.args.other.now c.listed_by.result
+    (multiplied_whole c.args.self.now c.args.other.now _
     (sym (elements_length c.args.self.now (omega arith) shown.0) ∙ same ∙ elements_length c.args.other.now (omega arith) other.0) shown.0
-    (listed_is _ c.listed_by.result (length s) (pointwise s t) c.listed_by.ensures room (pointwise_length s t c.if-elements-factors.false)
-    (λ k v h e. let stored : v ≡ product (get_or s k 0) (get_or t k 0) = search rules in stored ∙ sym (pointwise_at s t c.if-elements-factors.false k h))
+    (ap (made c.from_fn-items.result) (sym long)
+    ∙ listed_filled c.from_fn-items.result (pointwise s t) c.from_fn-items.ensures.items.long (omega (arith, long))
+    (λ k h. at k h ∙ sym (pointwise_at s t c.if-elements-factors.false k))
     ∙ ap₂ (λ s t. listed (pointwise s t)) shown.1 other.1))
