@@ -9,11 +9,11 @@ use Rattle.numbers.specs.declared.Refusal.{Refusal}
 use Rattle.std.specs.Prelude.{Result, Ok}
 
 module _ (verdict : Result ℕ Refusal) (content before : List ℕ) where
-  pub accepted : (n : ℕ) → Ok n ≡ verdict → (m : ℕ) → m ≡ n → (after : List ℕ) → after ≡ content ++ drop m before → Wrote verdict content before (Ok n) after
-  accepted n answer m same after put =
+  pub accepted : (n : ℕ) → Ok n ≡ verdict → (front : List ℕ) → front ≡ content → Wrote verdict content before (Ok n) (front ++ drop n before)
+  accepted n answer front put =
       record {
         answer = answer;
         buffer =
-            put ∙ ap (λ (k : ℕ). content ++ drop k before) same
+            ap (λ (l : List ℕ). l ++ drop n before) put
             ∙ ap (λ (v : Result ℕ Refusal). buffer_after v content before) answer;
       }

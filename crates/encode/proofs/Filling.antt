@@ -1,6 +1,6 @@
 -- What the functions that fill a buffer come to, as lists: a part of the buffer put back, the data part, the whole string.
-use mathlib.Core.Path.{◌≡◌, refl, sym, ap, ap₂, ◌∙◌}
-use mathlib.Core.List.{List, [], ◌∷◌, ◌++◌, map, append-nil, append_assoc}
+use mathlib.Core.Path.{◌≡◌, refl, ap, ap₂, ◌∙◌}
+use mathlib.Core.List.{List, [], ◌∷◌, ◌++◌, map, append-nil}
 use Prim.Native.Nat.{ℕ, ◌+◌, ◌-◌, ◌≤◌, ◌<◌}
 use native.Mathlib.Nat.{mod-eq_of_lt}
 use native.Mathlib.Numerals.{add-one}
@@ -8,7 +8,7 @@ use native.Mathlib.Omega.{arith}
 use borrow.Author.Tests.{le-ltb}
 use borrow.Rule.Slice.PartMut.{put_mid}
 use lib.ListN.{length, take, drop, set, get_or, drop_of_length-le, length-append, length-drop, length-map}
-use lib.Seq.{take_at, drop_at, take-suc, append_snoc, drop-drop, length-take-le, set_at}
+use lib.Seq.{drop_at, take-suc, append_snoc, length-take-le, set_at}
 use Rattle.laws.specs.Lists.{Every}
 use Rattle.laws.proofs.Parts.{rest}
 use Rattle.paper.specs.Charset.{lower, letter}
@@ -20,7 +20,7 @@ use Rattle.iter.proofs.Groups.{every_append}
 use Rattle.hrp.specs.Promises.{Folded}
 use Rattle.encode.proofs.Lengths.{written_length, check_small}
 use Rattle.numbers.specs.declared.Refusal.{Refusal}
-use Rattle.std.specs.Prelude.{Result}
+use Rattle.std.specs.Prelude.{Result, Ok, is_ok, true}
 
 -- a part that reaches to the end, put back
 pub tail_put : (a : ℕ) (d tail : List ℕ) → put_mid a (length d - a) d tail ≡ take a d ++ tail
@@ -30,31 +30,10 @@ tail_put a d tail =
 
 -- ---- the data part: the checksum after its symbols, then all of them as letters
 
-module _ (residue count : ℕ) (d : List ℕ) (room : count + 6 ≤ length d) (place : List ℕ) (put : place ≡ six_symbols residue) where
-  abbrev checked : List ℕ
-  checked = put_mid count (count + 6 - count) d place
-
-  abbrev all_symbols : List ℕ
-  all_symbols = take count d ++ six_symbols residue
-
-  all_count : length all_symbols ≡ count + 6
-  all_count = length-append (take count d) (six_symbols residue) ∙ ap (λ (n : ℕ). n + 6) (length-take-le count d (omega arith))
-
-  stands : checked ≡ all_symbols ++ drop (count + 6) d
-  stands =
-      ap₂ (λ (six past : List ℕ). take count d ++ (six ++ past)) put (drop-drop (count + 6 - count) count d ∙ ap (λ (k : ℕ). drop k d) end)
-      ∙ sym (append_assoc (take count d) (six_symbols residue) (drop (count + 6) d))
-    where
-      end : count + (count + 6 - count) ≡ count + 6
-      end = omega arith
-
-  pub data_written : (letters : List ℕ) → letters ≡ map character (take (count + 6) checked)
-      → letters ++ drop (count + 6) checked ≡ map character (take count d ++ six_symbols residue) ++ drop (count + 6) d
-  data_written letters e =
-      ap₂ ◌++◌
-      (e ∙ ap (λ (l : List ℕ). map character (take (count + 6) l)) stands
-      ∙ ap (map character) (take_at all_symbols (drop (count + 6) d) (count + 6) all_count))
-      (ap (drop (count + 6)) stands ∙ drop_at all_symbols (drop (count + 6) d) (count + 6) all_count)
+pub data_written : (residue count : ℕ) (d place letters : List ℕ) → place ≡ six_symbols residue
+    → letters ≡ map character (put_mid count (length d - count) d place) → letters ≡ map character (take count d ++ six_symbols residue)
+data_written residue count d place letters put e =
+    e ∙ ap (map character) (tail_put count d place ∙ ap (λ (six : List ℕ). take count d ++ six) put)
 
 -- ---- the whole string
 
@@ -71,31 +50,27 @@ unfolding written_into room_small
 folded_front prefix before r after h f =
     f.buffer ∙ rw (length-map prefix lower, le-ltb (length before) (length prefix) h)
 
-module _ (constant : ℕ) (prefix : List ℕ) (count : ℕ) (d : List ℕ) (room : length prefix + 7 + count ≤ length d)
+pub folded_ok : (prefix before : List ℕ) (r : Result ℕ Refusal) (after : List ℕ) → length prefix ≤ length before → Folded prefix before r after
+    → r ≡ Ok (length prefix)
+unfolding written_into room_small
+folded_ok prefix before r after h f = f.answer ∙ rw (length-map prefix lower, le-ltb (length before) (length prefix) h)
+
+module _ (constant : ℕ) (prefix : List ℕ) (count : ℕ) (d : List ℕ) (exact : length d ≡ length prefix + 7 + count)
     (small : Every (λ v. v < 32) (take count (drop (length prefix + 1) d))) (residue n : ℕ) (all : n ≡ count)
     (check : six_symbols residue ≡ checksum constant prefix (take n (drop (length prefix + 1) d))) (part : List ℕ)
     (put : part
-    ≡ map character (take count (take (length d - (length prefix + 1)) (drop (length prefix + 1) d)) ++ six_symbols residue)
-    ++ drop (count + 6) (take (length d - (length prefix + 1)) (drop (length prefix + 1) d)))
+    ≡ map character (take count (take (length d - (length prefix + 1)) (drop (length prefix + 1) d)) ++ six_symbols residue))
   where
     abbrev symbols : List ℕ
     symbols = take count (drop (length prefix + 1) d)
 
-    abbrev after : List ℕ
-    after = drop (length prefix + 7 + count) d
-
-    as_letters : part ≡ map letter (symbols ++ checksum constant prefix symbols) ++ after
+    as_letters : part ≡ map letter (symbols ++ checksum constant prefix symbols)
     as_letters =
         put
-        ∙ ap₂ (λ (l six : List ℕ). map character (take count l ++ six) ++ drop (count + 6) l) (rest d (length prefix + 1))
+        ∙ ap₂ (λ (l six : List ℕ). map character (take count l ++ six)) (rest d (length prefix + 1))
         (check ∙ ap (λ (k : ℕ). checksum constant prefix (take k (drop (length prefix + 1) d))) all)
-        ∙ ap₂ ◌++◌
-        (characters_letters (symbols ++ checksum constant prefix symbols)
-        (every_append (λ v. v < 32) symbols (checksum constant prefix symbols) small (check_small constant prefix symbols)))
-        (drop-drop (count + 6) (length prefix + 1) d ∙ ap (λ (k : ℕ). drop k d) places)
-      where
-        places : length prefix + 1 + (count + 6) ≡ length prefix + 7 + count
-        places = omega arith
+        ∙ characters_letters (symbols ++ checksum constant prefix symbols)
+        (every_append (λ v. v < 32) symbols (checksum constant prefix symbols) small (check_small constant prefix symbols))
 
     separated : set (put_mid (length prefix + 1) (length d - (length prefix + 1)) d part) (length prefix) 49 ≡ take (length prefix) d ++ 49 ∷ part
     separated =
@@ -106,29 +81,24 @@ module _ (constant : ℕ) (prefix : List ℕ) (count : ℕ) (d : List ℕ) (room
         ∙ append_snoc (take (length prefix) d) (get_or d (length prefix) 0) part)
         ∙ set_at (take (length prefix) d) (get_or d (length prefix) 0) part 49 (length prefix) (length-take-le (length prefix) d (omega arith))
 
-    pub string_written : (r : Result ℕ Refusal) (out : List ℕ)
-        → Folded prefix (set (put_mid (length prefix + 1) (length d - (length prefix + 1)) d part) (length prefix) 49) r out
-        → out ≡ written_string constant prefix symbols ++ after
-    unfolding written_string
-    string_written r out f =
-        folded_front prefix _ r out enough f
-        ∙ ap (λ (l : List ℕ). map lower prefix ++ l)
-        (ap (drop (length prefix)) separated
-        ∙ drop_at (take (length prefix) d) (49 ∷ part) (length prefix) (length-take-le (length prefix) d (omega arith))
-        ∙ ap (λ (l : List ℕ). 49 ∷ l) as_letters)
-        ∙ sym (append_assoc (map lower prefix) (49 ∷ map letter (symbols ++ checksum constant prefix symbols)) after)
-      where
-        enough : length prefix ≤ length (set (put_mid (length prefix + 1) (length d - (length prefix + 1)) d part) (length prefix) 49)
-        enough = omega (arith, ap length separated, length-append (take (length prefix) d) (49 ∷ part), length-take-le (length prefix) d (omega arith))
+    enough : length prefix ≤ length (set (put_mid (length prefix + 1) (length d - (length prefix + 1)) d part) (length prefix) 49)
+    enough = omega (arith, ap length separated, length-append (take (length prefix) d) (49 ∷ part), length-take-le (length prefix) d (omega arith))
+
+    module _ (r : Result ℕ Refusal) (out : List ℕ)
+        (f : Folded prefix (set (put_mid (length prefix + 1) (length d - (length prefix + 1)) d part) (length prefix) 49) r out) where
+      pub prefix_put : is_ok r ≡ true
+      prefix_put = ap is_ok (folded_ok prefix _ r out enough f)
+
+      pub string_written : out ≡ written_string constant prefix symbols
+      unfolding written_string
+      string_written =
+          folded_front prefix _ r out enough f
+          ∙ ap (λ (l : List ℕ). map lower prefix ++ l)
+          (ap (drop (length prefix)) separated
+          ∙ drop_at (take (length prefix) d) (49 ∷ part) (length prefix) (length-take-le (length prefix) d (omega arith))
+          ∙ ap (λ (l : List ℕ). 49 ∷ l) as_letters)
 
 -- nothing is lost or added
-pub length_kept : (constant : ℕ) (prefix symbols d out : List ℕ) (count : ℕ) → length symbols ≡ count → length prefix + 7 + count ≤ length d
-    → out ≡ written_string constant prefix symbols ++ drop (length prefix + 7 + count) d → length out ≡ length d
-length_kept constant prefix symbols d out count all room e =
-    omega (
-      arith,
-      ap length e,
-      length-append (written_string constant prefix symbols) (drop (length prefix + 7 + count) d),
-      written_length constant prefix symbols,
-      length-drop (length prefix + 7 + count) d,
-    )
+pub length_kept : (constant : ℕ) (prefix symbols d out : List ℕ) (count : ℕ) → length symbols ≡ count → length d ≡ length prefix + 7 + count
+    → out ≡ written_string constant prefix symbols → length out ≡ length d
+length_kept constant prefix symbols d out count all exact e = omega (arith, ap length e, written_length constant prefix symbols)

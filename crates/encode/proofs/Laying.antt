@@ -1,6 +1,6 @@
 -- A list laid into a buffer after the place of the separator, and what `finish` then makes of it.
 use mathlib.Core.Path.{◌≡◌, sym, ap, ap₂, ◌∙◌, subst}
-use mathlib.Core.List.{List, ◌∷◌, ◌++◌, append_assoc}
+use mathlib.Core.List.{List, ◌∷◌, ◌++◌}
 use Prim.Native.Nat.{ℕ, suc, ◌+◌, ◌-◌, ◌≤◌, ◌<◌}
 use native.Mathlib.Numerals.{add-one}
 use native.Mathlib.Omega.{arith}
@@ -20,7 +20,8 @@ use Rattle.iter.specs.Writing.{Wrote}
 use Rattle.iter.proofs.Lengths.{symbols_below}
 use Rattle.encode.proofs.Filling.{tail_put}
 use Rattle.numbers.specs.declared.Refusal.{Refusal}
-use Rattle.std.specs.Prelude.{Result}
+use Rattle.std.specs.Prelude.{Result, Ok}
+use Rattle.numbers.proofs.Numbers.{ok_injective}
 
 -- a list written into a buffer at a place
 abbrev pub laid_at : ℕ → List ℕ → List ℕ → List ℕ
@@ -48,6 +49,17 @@ laid_regrouped start content d r tail h w =
     enough : length content ≤ length (take (length d - start) (drop start d))
     enough = omega (arith, ap length (rest d start), length-drop start d)
 
+-- and it answers how many it wrote
+pub regrouped_ok : (start : ℕ) (content d : List ℕ) (r : Result ℕ Refusal) (tail : List ℕ) → start + length content ≤ length d
+    → Wrote content (take (length d - start) (drop start d)) r tail → r ≡ Ok (length content)
+unfolding written_into room_small
+regrouped_ok start content d r tail h w =
+    w.answer ∙ rw (le-ltb (length (take (length d - start) (drop start d))) (length content) (omega (arith, ap length (rest d start), length-drop start d)))
+
+pub regrouped_count : (start : ℕ) (content d : List ℕ) (r : Result ℕ Refusal) (tail : List ℕ) → start + length content ≤ length d
+    → Wrote content (take (length d - start) (drop start d)) r tail → (n : ℕ) → r ≡ Ok n → n ≡ length content
+regrouped_count start content d r tail h w n e = ok_injective n (length content) (sym e ∙ regrouped_ok start content d r tail h w)
+
 -- a value in front of it, stored before
 pub laid_after_store : (start v : ℕ) (content d : List ℕ) → start < length d
     → laid_at (start + 1) content (set d start v) ≡ laid_at start (v ∷ content) d
@@ -62,7 +74,7 @@ laid_after_store start v content d h =
 
 -- ---- the string that `finish` makes of symbols that were laid
 
-module _ (prefix content d : List ℕ) (count : ℕ) (all : count ≡ length content) (room : length prefix + 7 + length content ≤ length d)
+module _ (prefix content d : List ℕ) (count : ℕ) (all : count ≡ length content) (exact : length d ≡ length prefix + 7 + length content)
     (out : List ℕ) (laid : out ≡ laid_at (length prefix + 1) content d) where
   before_length : length (take (length prefix + 1) d) ≡ length prefix + 1
   before_length = length-take-le (length prefix + 1) d (omega arith)
@@ -84,42 +96,18 @@ module _ (prefix content d : List ℕ) (count : ℕ) (all : count ≡ length con
       ∙ ap (take count) (drop_at (take (length prefix + 1) d) (content ++ drop (length prefix + 1 + length content) d) (length prefix + 1) before_length)
       ∙ take_at content (drop (length prefix + 1 + length content) d) count (sym all)
 
-  -- what stands past it is as it was
-  laid_past : drop (length prefix + 7 + count) out ≡ drop (length prefix + 7 + count) d
-  laid_past =
-      ap (drop (length prefix + 7 + count)) laid
-      ∙ ap (λ (k : ℕ). drop k (laid_at (length prefix + 1) content d)) places
-      ∙ sym (drop-drop 6 (length prefix + 1 + length content) (laid_at (length prefix + 1) content d))
-      ∙ ap (drop 6) (ap (drop (length prefix + 1 + length content)) (sym (append_assoc (take (length prefix + 1) d) content after))
-      ∙ drop_at (take (length prefix + 1) d ++ content) after (length prefix + 1 + length content) both)
-      ∙ drop-drop 6 (length prefix + 1 + length content) d
-      ∙ ap (λ (k : ℕ). drop k d) (sym places)
-    where
-      after : List ℕ
-      after = drop (length prefix + 1 + length content) d
-
-      places : length prefix + 7 + count ≡ length prefix + 1 + length content + 6
-      places = omega (arith, all)
-
-      both : length (take (length prefix + 1) d ++ content) ≡ length prefix + 1 + length content
-      both = length-append (take (length prefix + 1) d) content ∙ ap (λ (n : ℕ). n + length content) before_length
-
   pub laid_ready : Every (λ v. v < 32) content
-      → (length prefix + 7 + count ≤ length out) × Every (λ v. v < 32) (take count (drop (length prefix + 1) out))
+      → (length out ≡ length prefix + 7 + count) × Every (λ v. v < 32) (take count (drop (length prefix + 1) out))
   laid_ready small = (omega (arith, all, laid_length), subst (Every (λ v. v < 32)) (sym laid_content) small)
 
   pub laid_finished : (constant : ℕ) (after : List ℕ)
-      → after ≡ written_string constant prefix (take count (drop (length prefix + 1) out)) ++ drop (length prefix + 7 + count) out
-      → after ≡ written_string constant prefix content ++ drop (length prefix + 7 + length content) d
-  laid_finished constant after e =
-      e
-      ∙ ap₂ (λ (s r : List ℕ). written_string constant prefix s ++ r) laid_content
-      (laid_past ∙ ap (λ (n : ℕ). drop (length prefix + 7 + n) d) all)
+      → after ≡ written_string constant prefix (take count (drop (length prefix + 1) out)) → after ≡ written_string constant prefix content
+  laid_finished constant after e = e ∙ ap (written_string constant prefix) laid_content
 
 -- ---- an address: the version is stored, and the program's symbols are laid behind it
 
-module _ (prefix : List ℕ) (version : ℕ) (program d : List ℕ) (n : ℕ) (all : n ≡ length (to_symbols program))
-    (room : length prefix + 7 + (1 + length (to_symbols program)) ≤ length d) (r : Result ℕ Refusal) (tail : List ℕ)
+module _ (prefix : List ℕ) (version : ℕ) (program d : List ℕ)
+    (exact : length d ≡ length prefix + 7 + (1 + length (to_symbols program))) (r : Result ℕ Refusal) (tail : List ℕ)
     (w : Wrote (to_symbols program)
     (take (length (set d (length prefix + 1) version) - (length prefix + 1 + 1)) (drop (length prefix + 1 + 1) (set d (length prefix + 1) version))) r tail)
   where
@@ -132,27 +120,27 @@ module _ (prefix : List ℕ) (version : ℕ) (program d : List ℕ) (n : ℕ) (a
     abbrev content : List ℕ
     content = version ∷ to_symbols program
 
+    fits : length prefix + 1 + 1 + length (to_symbols program) ≤ length stored
+    fits = omega (arith, length-set d (length prefix + 1) version)
+
     address_laid : out ≡ laid_at (length prefix + 1) content d
     address_laid =
-        laid_regrouped (length prefix + 1 + 1) (to_symbols program) stored r tail (omega (arith, length-set d (length prefix + 1) version)) w
+        laid_regrouped (length prefix + 1 + 1) (to_symbols program) stored r tail fits w
         ∙ laid_after_store (length prefix + 1) version (to_symbols program) d (omega arith)
 
-    counted : 1 + n ≡ length content
-    counted = omega (arith, all)
+    pub address_counted : r ≡ Ok (length (to_symbols program))
+    address_counted = regrouped_ok (length prefix + 1 + 1) (to_symbols program) stored r tail fits w
 
-    enough : length prefix + 7 + length content ≤ length d
-    enough = omega arith
+    module _ (n : ℕ) (given : r ≡ Ok n) where
+      counted : 1 + n ≡ length content
+      counted = let e : n ≡ length (to_symbols program) = ok_injective n _ (sym given ∙ address_counted) in omega (arith, e)
 
-    pub address_ready : version < 32 → (length prefix + 7 + (1 + n) ≤ length out) × Every (λ v. v < 32) (take (1 + n) (drop (length prefix + 1) out))
-    address_ready small = laid_ready prefix content d (1 + n) counted enough out address_laid (small, symbols_below program)
+      pub address_ready : version < 32 → (length out ≡ length prefix + 7 + (1 + n)) × Every (λ v. v < 32) (take (1 + n) (drop (length prefix + 1) out))
+      address_ready small = laid_ready prefix content d (1 + n) counted (omega arith) out address_laid (small, symbols_below program)
 
-    pub address_finished : (code : Checksum) → code ≡ checksum_for version → (after : List ℕ)
-        → after ≡ written_string (constant_for code) prefix (take (1 + n) (drop (length prefix + 1) out)) ++ drop (length prefix + 7 + (1 + n)) out
-        → after ≡ written_address prefix version program ++ drop (length prefix + 7 + (1 + length (to_symbols program))) d
-    unfolding written_address
-    address_finished code c after e =
-        laid_finished prefix content d (1 + n) counted enough out address_laid (constant_for code) after e
-        ∙ ap₂ (λ (k m : ℕ). written_string k prefix content ++ drop (length prefix + 7 + m) d) (ap constant_for c ∙ constant_of_version version) one
-      where
-        one : length content ≡ 1 + length (to_symbols program)
-        one = omega arith
+      pub address_finished : (code : Checksum) → code ≡ checksum_for version → (after : List ℕ)
+          → after ≡ written_string (constant_for code) prefix (take (1 + n) (drop (length prefix + 1) out)) → after ≡ written_address prefix version program
+      unfolding written_address
+      address_finished code c after e =
+          laid_finished prefix content d (1 + n) counted (omega arith) out address_laid (constant_for code) after e
+          ∙ ap (λ (k : ℕ). written_string k prefix content) (ap constant_for c ∙ constant_of_version version)

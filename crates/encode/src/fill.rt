@@ -1,5 +1,5 @@
-// Filling a buffer that is large enough. Symbols are laid into it after the separator's place and turned into letters there, so that no
-// other memory is needed.
+// Filling a buffer that is exactly as long as the string. Symbols are laid into it after the separator's place and turned into letters
+// there, so that no other memory is needed.
 ghost use Rattle.std.specs.Prelude.{◌≡◌, ◌++◌, map, ◌+◌, ◌≤◌, ◌<◌, length, take, drop};
 ghost use Rattle.laws.specs.Lists.{Every};
 ghost use Rattle.paper.specs.Checksum.{checksum, six_symbols};
@@ -21,9 +21,8 @@ pub(crate) struct Frame<'a> {
 impl<'a> Frame<'a> {
     #[tactic(auto, using(crate::proofs::Laying::laid_copied, crate::proofs::Laying::laid_ready, crate::proofs::Laying::laid_finished))]
     pub(crate) fn put_symbols(self, symbols: &[u8], out: &mut [u8])
-        requires { (length self.prefix.now + 7 + length symbols.now ≤ length out.old) × Every (λ v. v < 32) symbols.now }
-        ensures { out.new ≡ written_string (constant_for self.entry.checksum) self.entry.prefix.now symbols.now
-            ++ drop (length self.entry.prefix.now + 7 + length symbols.now) out.old }
+        requires { (length out.old ≡ length self.prefix.now + 7 + length symbols.now) × Every (λ v. v < 32) symbols.now }
+        ensures { out.new ≡ written_string (constant_for self.entry.checksum) self.entry.prefix.now symbols.now }
     {
         let start = self.prefix.len() + 1;
         out[start..start + symbols.len()].copy_from_slice(symbols);
@@ -31,27 +30,25 @@ impl<'a> Frame<'a> {
     }
 
     pub(crate) fn put_bytes(self, bytes: &[u8], out: &mut [u8])
-        requires { length self.prefix.now + 7 + length (to_symbols bytes.now) ≤ length out.old }
-        ensures { out.new ≡ written_string (constant_for self.entry.checksum) self.entry.prefix.now (to_symbols bytes.now)
-            ++ drop (length self.entry.prefix.now + 7 + length (to_symbols bytes.now)) out.old }
+        requires { length out.old ≡ length self.prefix.now + 7 + length (to_symbols bytes.now) }
+        ensures { out.new ≡ written_string (constant_for self.entry.checksum) self.entry.prefix.now (to_symbols bytes.now) }
     {
         let start = self.prefix.len() + 1;
-        let _ = iter::bytes_to_symbols(bytes, &mut out[start..]);
-        self.finish(iter::symbols_for_bytes(bytes), out);
+        let count = iter::bytes_to_symbols(bytes, &mut out[start..]).unwrap();
+        self.finish(count, out);
     }
 
     // The symbols stand after the separator's place already, so many of them; the rest of the string is put around them.
     #[tactic(auto, using(crate::proofs::Filling::length_kept))]
     fn finish(self, count: usize, out: &mut [u8])
-        requires { (length self.prefix.now + 7 + count ≤ length out.old) × Every (λ v. v < 32) (take count (drop (length self.prefix.now + 1) out.old)) }
-        ensures { out.new ≡ written_string (constant_for self.entry.checksum) self.entry.prefix.now
-            (take count (drop (length self.entry.prefix.now + 1) out.old)) ++ drop (length self.entry.prefix.now + 7 + count) out.old }
+        requires { (length out.old ≡ length self.prefix.now + 7 + count) × Every (λ v. v < 32) (take count (drop (length self.prefix.now + 1) out.old)) }
+        ensures { out.new ≡ written_string (constant_for self.entry.checksum) self.entry.prefix.now (take count (drop (length self.entry.prefix.now + 1) out.old)) }
     {
         let start = self.prefix.len() + 1;
         let residue = self.check_residue(&out[start..start + count]);
         put_data(residue, count, &mut out[start..]);
         out[self.prefix.len()] = b'1';
-        let _ = hrp::to_lower(self.prefix, out);
+        hrp::to_lower(self.prefix, out).unwrap();
     }
 
     // Its six symbols are the checksum.
@@ -69,29 +66,27 @@ impl<'a> Frame<'a> {
 
 // The version is the first symbol, and says which checksum.
 pub(crate) fn put_address(prefix: &[u8], version: u8, program: &[u8], out: &mut [u8])
-    requires { (length prefix.now + 7 + (1 + length (to_symbols program.now)) ≤ length out.old) × (version < 32) }
-    ensures { out.new ≡ written_address prefix.now version program.now
-        ++ drop (length prefix.now + 7 + (1 + length (to_symbols program.now))) out.old }
+    requires { (length out.old ≡ length prefix.now + 7 + (1 + length (to_symbols program.now))) × (version < 32) }
+    ensures { out.new ≡ written_address prefix.now version program.now }
 {
     let start = prefix.len() + 1;
     out[start] = version;
-    let _ = iter::bytes_to_symbols(program, &mut out[start + 1..]);
+    let count = iter::bytes_to_symbols(program, &mut out[start + 1..]).unwrap();
     let frame = Frame {
         checksum: checksum::for_version(version),
         prefix,
     };
-    frame.finish(1 + iter::symbols_for_bytes(program), out);
+    frame.finish(1 + count, out);
 }
 
 // The checksum after so many symbols, and all of them as letters.
 #[tactic(auto, using(crate::proofs::Filling::data_written))]
 fn put_data(residue: u32, count: usize, part: &mut [u8])
-    requires { count + 6 ≤ length part.old }
-    ensures { part.new ≡ map character (take count part.old ++ six_symbols residue) ++ drop (count + 6) part.old }
+    requires { length part.old ≡ count + 6 }
+    ensures { part.new ≡ map character (take count part.old ++ six_symbols residue) }
 {
-    let end = count + CHECKSUM_LENGTH;
-    put_check(residue, &mut part[count..end]);
-    to_letters(&mut part[..end]);
+    put_check(residue, &mut part[count..]);
+    to_letters(part);
 }
 
 // The place is the checksum's own.

@@ -22,7 +22,7 @@ pub fn write_symbols(
     ensures { SymbolsWritten checksum prefix.now symbols.now out.old result out.new }
 {
     let length = symbols_verdict(prefix, symbols, out.len())?;
-    Frame { checksum, prefix }.put_symbols(symbols, out);
+    Frame { checksum, prefix }.put_symbols(symbols, &mut out[..length]);
     Ok(length)
 }
 
@@ -37,7 +37,7 @@ pub fn write_bytes(
     ensures { BytesWritten checksum prefix.now bytes.now out.old result out.new }
 {
     let length = bytes_verdict(prefix, bytes, out.len())?;
-    Frame { checksum, prefix }.put_bytes(bytes, out);
+    Frame { checksum, prefix }.put_bytes(bytes, &mut out[..length]);
     Ok(length)
 }
 
@@ -51,7 +51,7 @@ pub fn write_address(
     ensures { AddressWritten prefix.now version program.now out.old result out.new }
 {
     let length = address_verdict(prefix, version, program, out.len())?;
-    put_address(prefix, version, program, out);
+    put_address(prefix, version, program, &mut out[..length]);
     Ok(length)
 }
 

@@ -8,6 +8,23 @@ use checksum::{CHECKSUM_LENGTH, CODE_LENGTH};
 use numbers::Refusal;
 use segwit::MAX_STRING_LENGTH;
 
+// How long a string may be, and what refuses a longer one.
+#[derive(Clone, Copy)]
+struct Limit {
+    most: usize,
+    too_long: Refusal,
+}
+
+const STRING: Limit = Limit {
+    most: CODE_LENGTH,
+    too_long: Refusal::StringLong,
+};
+
+const ADDRESS: Limit = Limit {
+    most: MAX_STRING_LENGTH,
+    too_long: Refusal::AddressLong,
+};
+
 // Prefix, 18, 7, 17. The constant does not matter: the two checksums are equally long.
 #[tactic(auto, using(crate::proofs::Orders::symbols_order, crate::proofs::Orders::prefix_short, crate::proofs::Large::large_listed))]
 pub(crate) fn symbols_verdict(prefix: &[u8], symbols: &[u8], room: usize) -> Result<usize, Refusal>
@@ -17,13 +34,7 @@ pub(crate) fn symbols_verdict(prefix: &[u8], symbols: &[u8], room: usize) -> Res
     if has_large(symbols) {
         return Err(Refusal::SymbolLarge);
     }
-    size_verdict(
-        prefix.len(),
-        symbols.len(),
-        CODE_LENGTH,
-        Refusal::StringLong,
-        room,
-    )
+    STRING.size(prefix.len(), symbols.len(), room)
 }
 
 // The same for the symbols of bytes, none of which is over 31.
@@ -32,13 +43,7 @@ pub(crate) fn bytes_verdict(prefix: &[u8], bytes: &[u8], room: usize) -> Result<
     ensures { (constant : ℕ) → result ≡ write_bytes_verdict constant prefix.now bytes.now room }
 {
     hrp::check(prefix)?;
-    size_verdict(
-        prefix.len(),
-        iter::symbols_for_bytes(bytes),
-        CODE_LENGTH,
-        Refusal::StringLong,
-        room,
-    )
+    STRING.size(prefix.len(), iter::symbols_for_bytes(bytes), room)
 }
 
 // Prefix, 12, 15, 16, 10, 17.
@@ -54,13 +59,7 @@ pub(crate) fn address_verdict(
     hrp::check(prefix)?;
     segwit::check_version(version)?;
     segwit::check_program_length(version, program.len())?;
-    size_verdict(
-        prefix.len(),
-        1 + iter::symbols_for_bytes(program),
-        MAX_STRING_LENGTH,
-        Refusal::AddressLong,
-        room,
-    )
+    ADDRESS.size(prefix.len(), 1 + iter::symbols_for_bytes(program), room)
 }
 
 fn has_large(symbols: &[u8]) -> bool
@@ -69,25 +68,21 @@ fn has_large(symbols: &[u8]) -> bool
     symbols.iter().any(|&symbol| 31 < symbol)
 }
 
-// The length of the whole: prefix, separator, symbols, checksum. The limit is compared without a sum, which could overflow.
-#[tactic(auto, unfolding(crate::specs::Sizes::size_verdict))]
-fn size_verdict(
-    prefix: usize,
-    symbols: usize,
-    limit: usize,
-    too_long: Refusal,
-    room: usize,
-) -> Result<usize, Refusal>
-    requires { (prefix ≤ 83) × (90 ≤ limit) }
-    ensures { result ≡ size_verdict limit too_long room (prefix + 7 + symbols) }
-{
-    let around = prefix + 1 + CHECKSUM_LENGTH;
-    if limit - around < symbols {
-        return Err(too_long);
+impl Limit {
+    // The length of the whole: prefix, separator, symbols, checksum. The limit is compared without a sum, which could overflow.
+    #[tactic(auto, unfolding(crate::specs::Sizes::size_verdict))]
+    fn size(self, prefix: usize, symbols: usize, room: usize) -> Result<usize, Refusal>
+        requires { (prefix ≤ 83) × (90 ≤ self.most) }
+        ensures { result ≡ size_verdict self.most self.too_long room (prefix + 7 + symbols) }
+    {
+        let around = prefix + 1 + CHECKSUM_LENGTH;
+        if self.most - around < symbols {
+            return Err(self.too_long);
+        }
+        let length = around + symbols;
+        if room < length {
+            return Err(Refusal::RoomSmall);
+        }
+        Ok(length)
     }
-    let length = around + symbols;
-    if room < length {
-        return Err(Refusal::RoomSmall);
-    }
-    Ok(length)
 }

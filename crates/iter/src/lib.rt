@@ -77,7 +77,7 @@ pub fn padding_of_characters(characters: &[u8]) -> Result<(), Refusal>
 }
 
 // A walk over the symbols of a slice of bytes: the slice, and how many it gave. Every count is a legal walk.
-#[derive(Clone, Drop)]
+#[derive(Clone, Copy)]
 pub struct BytesToSymbols<'a> {
     pub bytes: &'a [u8],
     pub at: usize,
@@ -121,7 +121,7 @@ impl<'a> Iterator for BytesToSymbols<'a> {
 }
 
 // A walk over the bytes of a slice of symbols, the same way. Both are public, so each has its own type and promises.
-#[derive(Clone, Drop)]
+#[derive(Clone, Copy)]
 pub struct SymbolsToBytes<'a> {
     pub symbols: &'a [u8],
     pub at: usize,
@@ -230,7 +230,8 @@ fn symbol_at(bytes: &[u8], at: usize) -> u8
 {
     let first = at / 8 * 5 + at % 8 * 5 / 8;
     let offset = at % 8 * 5 % 8;
-    let window = (nth(&Plain, bytes, first) as u16) * 256 + nth(&Plain, bytes, first + 1) as u16;
+    let window = u16::from(nth(&Plain, bytes, first)) * 256
+        + u16::from(nth(&Plain, bytes, first + 1));
     ((window >> (11 - offset)) % 32) as u8
 }
 
@@ -245,7 +246,7 @@ fn byte_at<R: Reading>(reading: &R, list: &[u8], at: usize) -> u8
     let x = nth(reading, list, first) % 32;
     let y = nth(reading, list, first + 1) % 32;
     let z = nth(reading, list, first + 2) % 32;
-    let window = (x as u16) * 1024 + (y as u16) * 32 + z as u16;
+    let window = u16::from(x) * 1024 + u16::from(y) * 32 + u16::from(z);
     ((window >> (7 - offset)) % 256) as u8
 }
 

@@ -138,7 +138,7 @@ fn try_symbols(
     ensures same_budget { steps.new.budget ≡ steps.old.budget }
 {
     for symbol in 1..32u8 {
-        if let Some(rest) = walk(changes, residue ^ (symbol as u32), place, steps)? {
+        if let Some(rest) = walk(changes, residue ^ u32::from(symbol), place, steps)? {
             return Ok(Some(in_front(Change { place, symbol }, rest)));
         }
     }

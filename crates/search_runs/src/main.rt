@@ -36,8 +36,8 @@ fn run(rt: &impl Print, window: usize, budget: u64, scratch: &mut [u32]) {
     scratch.fill(MARK);
     let outcome = search::search(window, scratch, budget);
     let words = scratch.len();
-    let kept = scratch.iter().all(|word| *word == MARK) as u8;
-    let wiped = scratch.iter().all(|word| *word == 0) as u8;
+    let kept = u8::from(scratch.iter().all(|word| *word == MARK));
+    let wiped = u8::from(scratch.iter().all(|word| *word == 0));
     let shown = Shown { outcome };
     let _ = println!(rt; " {window} {budget} {words} {kept} {wiped} {shown}");
 }

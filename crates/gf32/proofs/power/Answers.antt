@@ -1,7 +1,7 @@
 -- The table holds the powers of a: one comparison for all places.
 use Rattle.laws.specs.Xor.{◌⊕◌}
 use Rattle.laws.proofs.Below.{equal_below}
-use Prim.Native.Nat.{ℕ, ◌%◌}
+use Prim.Native.Nat.{◌%◌}
 use native.Mathlib.Nat.{mod-lt, zero-lt-suc}
 use lib.ListN.{get_or}
 use Rattle.gf32.specs.Field.{times_a}

@@ -12,6 +12,7 @@ returns g c =
     let read = g.R.Reading.symbol_of in
     let list = c.args.list.now in
     let low = λ (v : ℕ). v % 32 in
-    byte_from (map read list) c.args.at (omega (arith, read_length read list))
+    rw (c.from.ensures, c.from-2.ensures, c.from-3.ensures)
+    (byte_from (map read list) c.args.at (omega (arith, read_length read list))
     c.nth-x.result c.nth-y.result c.nth-z.result
-    (ap low c.nth-x.ensures) (ap low c.nth-y.ensures) (ap low c.nth-z.ensures)
+    (ap low c.nth-x.ensures) (ap low c.nth-y.ensures) (ap low c.nth-z.ensures))

@@ -13,6 +13,7 @@ returns c =
     let bytes = c.args.bytes.now in
     let first = first_byte bytes c.args.at c.requires in
     let plain = λ (i : ℕ). ap (λ (l : List ℕ). get_or l i 0) (map-id bytes) in
-    symbol_from bytes c.args.at c.requires c.nth.result c.nth-2.result
+    rw (c.from.ensures, c.from-2.ensures)
+    (symbol_from bytes c.args.at c.requires c.nth.result c.nth-2.result
     (c.nth.ensures ∙ plain first) (c.nth-2.ensures ∙ plain (first + 1))
-    (search rules) (search rules)
+    (search rules) (search rules))

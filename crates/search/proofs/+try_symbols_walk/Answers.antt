@@ -15,25 +15,26 @@ use Rattle.search.proofs.+try_symbols_walk.Goals as goal
 pub try_symbols-walk-requires : goal.try_symbols-walk-requires
 unfolding ◌⊕◌
 try_symbols-walk-requires t c =
+    rw c.from.ensures
     (omega arith, (omega arith, omega arith, live_symbol c.args.residue c.loop-symbol.symbol c.requires.2 c.requires.3 c.loop-symbol-test.true))
 
 pub try_symbols-returns-in_err-rest-clause-tried : goal.try_symbols-returns-in_err-rest-clause-tried
 unfolding ◌⊕◌
 try_symbols-returns-in_err-rest-clause-tried t c =
     let exit = err_from_is_err_and c.from_residual.result c.from_residual.ensures.1 in
-    let walked = rw c.loop-symbol.invariant.1 at c.in_err-rest.ensures.walked in
+    let walked = rw (c.from.ensures, c.loop-symbol.invariant.1) at c.in_err-rest.ensures.walked in
     rw (exit.1, exit.2) (tests_refused c.loop-symbol.invariant.0 c.loop-symbol-test.true _ _ walked)
 
 pub try_symbols-returns-in-Some-clause-tried : goal.try_symbols-returns-in-Some-clause-tried
 unfolding ◌⊕◌
 try_symbols-returns-in-Some-clause-tried t c =
-    let walked = rw (c.in-Some.is, c.loop-symbol.invariant.1) at c.in_ok-rest.ensures.walked in
+    let walked = rw (c.in-Some.is, c.from.ensures, c.loop-symbol.invariant.1) at c.in_ok-rest.ensures.walked in
     tests_shown c.loop-symbol.invariant.0 c.loop-symbol-test.true _ _ _ walked c.in_front.ensures
 
 pub try_symbols-loop-symbol-preserved : goal.try_symbols-loop-symbol-preserved
 unfolding ◌⊕◌
 try_symbols-loop-symbol-preserved t c =
-    let walked = rw (c.in_default.is, c.loop-symbol.invariant.1) at c.in_ok-rest.ensures.walked in
+    let walked = rw (c.in_default.is, c.from.ensures, c.loop-symbol.invariant.1) at c.in_ok-rest.ensures.walked in
     (tested_more c.loop-symbol.invariant.0 c.loop-symbol-test.true _ walked, cc)
 
 -- ---- the loop over the places

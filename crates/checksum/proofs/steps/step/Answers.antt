@@ -7,4 +7,4 @@ use Rattle.checksum.proofs.steps.step.Goals as goal
 
 pub returns : goal.returns
 unfolding step ◌⊕◌
-returns c = rw (masked_up c.args.residue 25 5 (omega arith), c.mix.ensures)
+returns c = rw (masked_up c.args.residue 25 5 (omega arith), c.from.ensures, c.mix.ensures)

@@ -11,6 +11,8 @@ unfolding ◌⊕◌
 returns c =
     rw (
       masked_up c.args.residue 20 10 (omega arith),
+      c.from.ensures,
+      c.from-2.ensures,
       shl_exact {a = c.args.first} 8 5 32 (search rules) (omega arith),
       c.mix_twice.ensures,
       c.mix.ensures,

@@ -1,23 +1,34 @@
 -- The symbols of the bytes are laid into the buffer, and `finish` makes the string of them.
+use mathlib.Core.Path.{ap}
 use Prim.Native.Nat.{◌+◌}
 use lib.ListN.{length}
+use Rattle.std.specs.Prelude.{is_ok}
 use Rattle.paper.specs.Bits.{to_symbols}
 use Rattle.checksum.specs.Parameters.{constant_for}
 use Rattle.iter.proofs.Lengths.{symbols_below}
-use Rattle.encode.proofs.Laying.{laid_regrouped, laid_ready, laid_finished}
-use borrow.Author.Rules.{rules}
+use Rattle.encode.proofs.Laying.{laid_regrouped, regrouped_ok, regrouped_count, laid_ready, laid_finished}
+use native.Mathlib.Omega.{arith}
 use Rattle.encode.proofs.fill.Frame.put_bytes.Goals as goal
+
+pub unwrap-count-requires : goal.unwrap-count-requires
+unwrap-count-requires c =
+    let a = c.args in
+    ap is_ok (regrouped_ok (length a.self.prefix.now + 1) (to_symbols a.bytes.now) a.out.now _ c.bytes_to_symbols.new.out (omega arith) c.bytes_to_symbols.ensures)
 
 pub finish-requires : goal.finish-requires
 finish-requires c =
     let a = c.args in
-    laid_ready a.self.prefix.now (to_symbols a.bytes.now) a.out.now _ c.symbols_for_bytes.ensures c.requires _
-    (laid_regrouped (length a.self.prefix.now + 1) (to_symbols a.bytes.now) a.out.now _ c.bytes_to_symbols.new.out (search rules) c.bytes_to_symbols.ensures)
+    laid_ready a.self.prefix.now (to_symbols a.bytes.now) a.out.now _
+    (regrouped_count (length a.self.prefix.now + 1) (to_symbols a.bytes.now) a.out.now _ c.bytes_to_symbols.new.out (omega arith) c.bytes_to_symbols.ensures _ c.unwrap-count.ensures)
+    c.requires _
+    (laid_regrouped (length a.self.prefix.now + 1) (to_symbols a.bytes.now) a.out.now _ c.bytes_to_symbols.new.out (omega arith) c.bytes_to_symbols.ensures)
     (symbols_below a.bytes.now)
 
 pub returns : goal.returns
 returns c =
     let a = c.args in
-    laid_finished a.self.prefix.now (to_symbols a.bytes.now) a.out.now _ c.symbols_for_bytes.ensures c.requires _
-    (laid_regrouped (length a.self.prefix.now + 1) (to_symbols a.bytes.now) a.out.now _ c.bytes_to_symbols.new.out (search rules) c.bytes_to_symbols.ensures)
+    laid_finished a.self.prefix.now (to_symbols a.bytes.now) a.out.now _
+    (regrouped_count (length a.self.prefix.now + 1) (to_symbols a.bytes.now) a.out.now _ c.bytes_to_symbols.new.out (omega arith) c.bytes_to_symbols.ensures _ c.unwrap-count.ensures)
+    c.requires _
+    (laid_regrouped (length a.self.prefix.now + 1) (to_symbols a.bytes.now) a.out.now _ c.bytes_to_symbols.new.out (omega arith) c.bytes_to_symbols.ensures)
     (constant_for a.self.checksum) _ c.finish.ensures
