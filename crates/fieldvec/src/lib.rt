@@ -104,7 +104,7 @@ impl FieldVec {
         if elements.len() != factors.len() {
             return Err(Refusal::ListPlace);
         }
-        let items = array::from_fn(|i| product(stored_at(elements, i), stored_at(factors, i)));
+        let items = array::from_fn(|i| product_at(elements, factors, i));
         *self = FieldVec {
             items,
             len: elements.len(),
@@ -173,6 +173,13 @@ fn product(x: u16, y: u16) -> u16
     ensures { result ≡ product x y }
 {
     narrowed(gf32_ext::multiply(u32::from(x), u32::from(y)))
+}
+
+// Past the ends stand zeros, whose product is zero and is not worked out.
+fn product_at(s: &[u16], t: &[u16], at: usize) -> u16
+    ensures { result ≡ product (get_or s.now at 0) (get_or t.now at 0) }
+{
+    s.get(at).zip(t.get(at)).map_or(0, |(x, y)| product(*x, *y))
 }
 
 // Past the end stand zeros.

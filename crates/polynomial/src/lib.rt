@@ -209,6 +209,7 @@ fn product_of(a: &[u16], b: &[u16], d: usize) -> Result<FieldVec, Refusal>
 
 // ---- the search for a root (Chien): the terms c_i x^i at x = base^e are kept, and each is multiplied by base^i for the next exponent
 
+// That p counts within its capacity is asked, since first_root has to refuse a count over it before it looks at the base.
 fn root_from(p: &FieldVec, base: u32, from: usize) -> Result<Option<usize>, Refusal>
     requires { (p.now.len ≤ capacity) × (from < group_order) }
     ensures { result ≡ Ok (root_after (elements p.now) base from) }
