@@ -1,6 +1,6 @@
 -- Segwit reading after 10 and 1 to 6 as the code does it: stage by stage, each handing on what it gives. It comes to the judgement by the rules.
 use Rattle.std.specs.Prelude.{List, [], ◌∷◌, ◌++◌, map, ◌≡◌, ℕ, ◌-◌, ◌≤◌, eqb, length, Result, Ok, Err, ⊤}
-use Rattle.std.proofs.Common.{refl, sym, ap, ◌∙◌, arith}
+use Rattle.std.proofs.Common.{refl, sym, ◌∙◌, arith}
 use native.Mathlib.Decide.{ℕ_discrete}
 use lib.Seq.{length-take-le}
 use borrow.Author.Tests.{eqb-false, ltb-false, eq-eqb, ne_eqb}
@@ -9,7 +9,7 @@ use Rattle.paper.specs.Checksum.{constant_of}
 use Rattle.paper.specs.Bits.{to_bytes}
 use Rattle.numbers.specs.declared.Refusal.{Refusal}
 use Rattle.numbers.specs.declared.Refusal.TheVariants.{NoData}
-use Rattle.answers.specs.Order.{Rule, ◌gives◌, first_of, NoneApplies}
+use Rattle.answers.specs.Order.{Rule, ◌gives◌, first_of}
 use Rattle.answers.specs.Rules.{padding_verdict, length_verdict}
 use Rattle.answers.specs.Reading.{as_address}
 use Rattle.answers.specs.declared.Address.{Address}

@@ -1,8 +1,7 @@
 -- Segwit reading in document 01's stages: 10 and 1 to 6 of the string, and then what is asked of its parts.
-use Rattle.std.specs.Prelude.{List, [], ◌∷◌, ◌++◌, map, ◌≡◌, ℕ, ◌≤◌, ◌<◌, eqb, length, Result, Ok, Err, MatchResult}
-use Rattle.std.proofs.Common.{refl, sym, ap, ap₂, ◌∙◌, arith}
-use native.Mathlib.Decide.{ℕ_discrete}
-use borrow.Author.Tests.{eqb-false, ltb-false, le-ltb, lt-ltb, eq-eqb, ne_eqb}
+use Rattle.std.specs.Prelude.{List, [], ◌∷◌, ◌++◌, map, ◌≡◌, ℕ, ◌≤◌, ◌<◌, length, Result, Ok, Err, MatchResult}
+use Rattle.std.proofs.Common.{refl, ap, ap₂, ◌∙◌}
+use borrow.Author.Tests.{le-ltb, lt-ltb}
 use Rattle.laws.proofs.Lists.{map_drop}
 use Rattle.paper.specs.Charset.{symbol}
 use Rattle.paper.specs.Checksum.{constant_of}
@@ -13,11 +12,6 @@ use Rattle.answers.specs.Order.{Rule, ◌gives◌, first_of}
 use Rattle.answers.specs.Rules.{version_unknown, length_wrong, length_wrong_for0, padding_long, padding_not_zero}
 use Rattle.answers.specs.Reading.{string_rules, prefix_part, data_part, payload, payload_symbols, version_of, program_symbols, program_of, longer_than, data_missing, data_short, checksum_wrong, payload_missing, address_verdict, as_address}
 use Rattle.answers.specs.declared.Address.{Address}
-use Rattle.answers.proofs.Orders.{accepted_only}
-use Rattle.answers.proofs.Exact.{payload_length}
-use Rattle.checksum.specs.Parameters.{constant_for, checksum_for}
-use Rattle.checksum.proofs.Constants.{constant_of_version}
-use Rattle.iter.proofs.Characters.{characters_length}
 use Rattle.decode.specs.Splitting.{parts_of, split_verdict}
 use Rattle.decode.specs.Places.{Place}
 use Rattle.decode.specs.Halves.{Halved}

@@ -1,6 +1,6 @@
 // Filling a buffer that is exactly as long as the string. Symbols are laid into it after the separator's place and turned into letters
 // there, so that no other memory is needed.
-ghost use Rattle.std.specs.Prelude.{◌≡◌, ◌++◌, map, ◌+◌, ◌≤◌, ◌<◌, length, take, drop};
+ghost use Rattle.std.specs.Prelude.{◌≡◌, ◌++◌, map, ◌+◌, ◌<◌, length, take, drop};
 ghost use Rattle.laws.specs.Lists.{Every};
 ghost use Rattle.paper.specs.Checksum.{checksum, six_symbols};
 ghost use Rattle.paper.specs.Bits.{to_symbols};
@@ -42,7 +42,8 @@ impl<'a> Frame<'a> {
     #[tactic(auto, using(crate::proofs::Filling::length_kept))]
     fn finish(self, count: usize, out: &mut [u8])
         requires { (length out.old ≡ length self.prefix.now + 7 + count) × Every (λ v. v < 32) (take count (drop (length self.prefix.now + 1) out.old)) }
-        ensures { out.new ≡ written_string (constant_for self.entry.checksum) self.entry.prefix.now (take count (drop (length self.entry.prefix.now + 1) out.old)) }
+        ensures { out.new ≡ written_string (constant_for self.entry.checksum) self.entry.prefix.now
+            (take count (drop (length self.entry.prefix.now + 1) out.old)) }
     {
         let start = self.prefix.len() + 1;
         let residue = self.check_residue(&out[start..start + count]);

@@ -16,6 +16,7 @@ use Rattle.laws.proofs.Xor.{digit}
 use Rattle.paper.specs.Charset.{charset, symbol, is_symbol, is_upper, is_lower}
 use Rattle.gf32.specs.Classes.{class_of, symbol_in, outside_in, upper_in, lower_in, both_cases_in, Joined}
 use Rattle.gf32.specs.Promises.{ClassesGiven}
+use Rattle.gf32.specs.declared.tables.TheConstants.{CLASSES}
 
 -- ---- one byte
 
@@ -57,6 +58,11 @@ unfolding class_of lower_in symbol is_symbol charset alike
 lower_told = alike_below (λ c. lower_in (class_of c)) is_lower 256 tt
 
 -- ---- one byte, by the table
+
+-- the code's table is the list that `class_of` computes
+pub classes_given : ClassesGiven CLASSES
+unfolding class_of symbol is_symbol charset
+classes_given = refl
 
 pub entry : (classes : List ℕ) (c : ℕ) → ClassesGiven classes → c < 256 → get_or classes c 0 ≡ class_of c
 entry classes c given byte = ap (λ (l : List ℕ). get_or l c 0) given ∙ tabulated class_of 256 c byte

@@ -7,7 +7,8 @@ use Rattle.encode.proofs.fill.put_address.Goals as goal
 pub unwrap-count-requires : goal.unwrap-count-requires
 unwrap-count-requires c =
     let a = c.args in
-    ap is_ok (address_counted a.prefix.now a.version a.program.now a.out.now c.requires.0 c.bytes_to_symbols.result c.bytes_to_symbols.new.out c.bytes_to_symbols.ensures)
+    ap is_ok
+    (address_counted a.prefix.now a.version a.program.now a.out.now c.requires.0 c.bytes_to_symbols.result c.bytes_to_symbols.new.out c.bytes_to_symbols.ensures)
 
 pub finish-requires : goal.finish-requires
 finish-requires c =

@@ -13,22 +13,25 @@ use Rattle.encode.proofs.fill.Frame.put_bytes.Goals as goal
 pub unwrap-count-requires : goal.unwrap-count-requires
 unwrap-count-requires c =
     let a = c.args in
-    ap is_ok (regrouped_ok (length a.self.prefix.now + 1) (to_symbols a.bytes.now) a.out.now _ c.bytes_to_symbols.new.out (omega arith) c.bytes_to_symbols.ensures)
+    let start = length a.self.prefix.now + 1 in
+    ap is_ok (regrouped_ok start (to_symbols a.bytes.now) a.out.now _ c.bytes_to_symbols.new.out (omega arith) c.bytes_to_symbols.ensures)
 
 pub finish-requires : goal.finish-requires
 finish-requires c =
     let a = c.args in
-    laid_ready a.self.prefix.now (to_symbols a.bytes.now) a.out.now _
-    (regrouped_count (length a.self.prefix.now + 1) (to_symbols a.bytes.now) a.out.now _ c.bytes_to_symbols.new.out (omega arith) c.bytes_to_symbols.ensures _ c.unwrap-count.ensures)
-    c.requires _
-    (laid_regrouped (length a.self.prefix.now + 1) (to_symbols a.bytes.now) a.out.now _ c.bytes_to_symbols.new.out (omega arith) c.bytes_to_symbols.ensures)
-    (symbols_below a.bytes.now)
+    let start = length a.self.prefix.now + 1 in
+    let symbols = to_symbols a.bytes.now in
+    let tail = c.bytes_to_symbols.new.out in
+    let count = regrouped_count start symbols a.out.now _ tail (omega arith) c.bytes_to_symbols.ensures _ c.unwrap-count.ensures in
+    let laid = laid_regrouped start symbols a.out.now _ tail (omega arith) c.bytes_to_symbols.ensures in
+    laid_ready a.self.prefix.now symbols a.out.now _ count c.requires _ laid (symbols_below a.bytes.now)
 
 pub returns : goal.returns
 returns c =
     let a = c.args in
-    laid_finished a.self.prefix.now (to_symbols a.bytes.now) a.out.now _
-    (regrouped_count (length a.self.prefix.now + 1) (to_symbols a.bytes.now) a.out.now _ c.bytes_to_symbols.new.out (omega arith) c.bytes_to_symbols.ensures _ c.unwrap-count.ensures)
-    c.requires _
-    (laid_regrouped (length a.self.prefix.now + 1) (to_symbols a.bytes.now) a.out.now _ c.bytes_to_symbols.new.out (omega arith) c.bytes_to_symbols.ensures)
-    (constant_for a.self.checksum) _ c.finish.ensures
+    let start = length a.self.prefix.now + 1 in
+    let symbols = to_symbols a.bytes.now in
+    let tail = c.bytes_to_symbols.new.out in
+    let count = regrouped_count start symbols a.out.now _ tail (omega arith) c.bytes_to_symbols.ensures _ c.unwrap-count.ensures in
+    let laid = laid_regrouped start symbols a.out.now _ tail (omega arith) c.bytes_to_symbols.ensures in
+    laid_finished a.self.prefix.now symbols a.out.now _ count c.requires _ laid (constant_for a.self.checksum) _ c.finish.ensures
