@@ -1,5 +1,6 @@
 // Filling a buffer that is exactly as long as the string. Symbols are laid into it after the separator's place and turned into letters
-// there, so that no other memory is needed.
+// there, so that no other memory is needed. Each contract says the length in full, of its own count: a buffer and a count in one struct would be
+// no plainer, as every call takes another part of the buffer.
 ghost use Rattle.std.specs.Prelude.{◌≡◌, ◌++◌, map, ◌+◌, ◌<◌, length, take, drop};
 ghost use Rattle.laws.specs.Lists.{Every};
 ghost use Rattle.paper.specs.Checksum.{checksum, six_symbols};
