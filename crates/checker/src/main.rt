@@ -62,7 +62,7 @@ fn run(rt: &(impl Input + Print)) -> Result<(), Failure> {
     Err(Failure::InputLong)
 }
 
-// What is kept of the last line between two pieces.
+// What is kept of the last line between two pieces: fixed memory, and a count.
 #[derive(Drop)]
 struct Kept {
     line: [u8; KEPT],

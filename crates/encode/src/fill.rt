@@ -18,7 +18,8 @@ pub(crate) struct Frame<'a> {
     pub(crate) prefix: &'a [u8],
 }
 
-// Each put_ lays its own symbols and lets `finish` do the rest. Three times two lines, as a closure that lays them would need a contract of its own.
+// Symbols, bytes and addresses are each laid in their own way, in a few lines, and `finish` does the rest: a closure that lays them would need a
+// contract of its own.
 impl<'a> Frame<'a> {
     #[tactic(auto, using(crate::proofs::Laying::laid_copied, crate::proofs::Laying::laid_ready, crate::proofs::Laying::laid_finished))]
     pub(crate) fn put_symbols(self, symbols: &[u8], out: &mut [u8])

@@ -41,7 +41,7 @@ pub fn write_bytes(
     Ok(length)
 }
 
-// Segwit writing: the version is the first symbol, and says which checksum.
+// Segwit writing: the version is the first symbol, and says which checksum. Prefix, version and program come one by one, as every caller has them.
 pub fn write_address(
     prefix: &[u8],
     version: u8,

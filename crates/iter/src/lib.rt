@@ -163,7 +163,7 @@ impl<'a> Iterator for SymbolsToBytes<'a> {
     }
 }
 
-// How a byte of a list stands for a symbol.
+// How a byte of a list stands for a symbol. It goes beside the list, as the list alone is what a caller lends.
 trait Reading {
     ghost symbol_of: { ℕ → ℕ };
 

@@ -25,7 +25,8 @@ pub struct Line {
     pub len: usize,
 }
 
-// What comes of a piece: how many of its bytes were taken, how many bytes of the output are written, and the count for the next call.
+// What comes of a piece: how many of its bytes were taken, how many bytes of the output are written, and the count for the next call. All three lie in
+// buffers that the caller lent.
 #[derive(Clone, Copy)]
 pub struct Fed {
     pub taken: usize,
@@ -52,6 +53,7 @@ pub fn feed(input: &[u8], line: &mut [u8], state: Line, out: &mut [u8]) -> Resul
         });
     }
     let fed = take_bytes(input, &mut Kept { line, len }, out);
+    // The first byte is a line end that there is no room to answer: of a piece that is not empty, nothing is taken in no other case.
     if fed.taken == 0 {
         return Err(Refusal::RoomSmall);
     }
@@ -85,7 +87,8 @@ fn kept_count(len: usize) -> usize
     len.min(KEPT)
 }
 
-// The bytes of a line that is not ended yet, at the front of a line buffer that has room for as many as are kept.
+// The bytes of a line that is not ended yet, at the front of a line buffer that has room for as many as are kept. A buffer and a count: the memory is
+// the caller's.
 #[derive(Drop)]
 struct Kept<'a> {
     line: &'a mut [u8],
@@ -152,7 +155,7 @@ fn number_of_line(line: &[u8]) -> u8
     numbers::number_in(decode::check_address(line))
 }
 
-// One digit or two, and a line end.
+// One digit or two, and a line end: what `put` writes.
 fn answer_length(number: u8) -> usize
     ensures { result ≡ answer_length number }
 {

@@ -5,6 +5,7 @@ ghost use Rattle.std.specs.Prelude.{◌≡◌};
 ghost use Rattle.numbers.specs.Numbers.{number_of};
 ghost use Rattle.numbers.specs.Promises.{NumberGiven};
 
+// What C has for an answer that refuses nothing.
 pub const ACCEPTED: u8 = 0;
 
 #[derive(Clone, Copy, PartialEq, Eq, Debug)]

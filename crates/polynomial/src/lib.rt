@@ -164,7 +164,7 @@ fn low_symbol(x: u32) -> u16
     (x % 32) as u16
 }
 
-// ---- two polynomials
+// ---- two polynomials, each by the slice that it shows: a struct of both would be made for one call and taken apart in it
 
 fn coefficient_of(a: &[u16], b: &[u16], k: usize) -> u32
     ensures { result ≡ coefficient a.now b.now k }

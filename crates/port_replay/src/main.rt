@@ -40,7 +40,7 @@ fn read_full(rt: &impl Input, buffer: &mut [u8]) -> usize
     done
 }
 
-// A kind, a number, and two strings.
+// A kind, a number, and two strings. The kind is a letter of the file stdin, taken apart in one match and nowhere else.
 #[derive(Clone, Copy)]
 struct Case<'a> {
     kind: u8,
@@ -119,6 +119,7 @@ fn compare(rt: &impl Print, a: &[u8], b: &[u8]) {
     value(rt, u8::from(hrp::is_valid_segwit(a)));
 }
 
+// Digits of the file stdout, which are no numbers of the enums' own: so no From.
 fn order_number(order: Ordering) -> u8 {
     match order {
         Ordering::Less => 0,
@@ -127,6 +128,7 @@ fn order_number(order: Ordering) -> u8 {
     }
 }
 
+// The same.
 fn network_number(network: Option<Network>) -> u8 {
     match network {
         Some(Network::Mainnet) => 0,

@@ -40,7 +40,8 @@ pub struct Outcome {
     pub steps: u64,
 }
 
-// The steps that a search has used, of those that it may.
+// The steps that a search has used, of those that it may. That the budget stays is said by each call that takes them: as a fact of the type it would
+// have to name the budget that a search began with, which the type does not know.
 #[derive(Drop)]
 struct Steps {
     used: u64,
