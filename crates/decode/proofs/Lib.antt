@@ -11,3 +11,4 @@ pub mod Rooms
 pub mod Handed
 pub mod Numbered
 pub mod Excluded
+pub mod Inhabited
