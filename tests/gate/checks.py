@@ -286,12 +286,14 @@ def rests_on(root, function, file):
 
 
 def definition_problems(root, repository, edit, place, theorem):
-    """What is wrong with an edit of a definition: one that belongs to no function."""
+    """What is wrong with an edit of a definition or of a function that is not public: it belongs to no row of a promise."""
     problems = []
+    goal = theorem.startswith("fn ")  # of a function, whose own edit_problems look for it
     if edit not in repository.edit_files:
         problems.append((place, f"there is no {file_of(edit)}"))
-    elif not any(module_named(stated).endswith(f".{theorem}") for stated in edits.edit_of(root / file_of(edit)).refused_at):
+    elif not any(stated == theorem if goal else module_named(stated).endswith(f".{theorem}")
+                 for stated in edits.edit_of(root / file_of(edit)).refused_at):
         problems.append((place, f"{edit} does not say that {theorem} refuses it"))
-    if not any(repository.theorems(crate, theorem) for crate in repository.folders):
+    if not goal and not any(repository.theorems(crate, theorem) for crate in repository.folders):
         problems.append((place, f"there is no theorem {theorem} in specs/ or proofs/ of any crate"))
     return problems

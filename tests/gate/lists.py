@@ -17,7 +17,7 @@ CRATES = {"crate": CRATE, "holds": ".+"}
 PROMISES = {"function": FUNCTION, "promise": NAME, "one answer": f"open: .+|{THEOREM}",
             "wrong answers ruled out": f"(?:{WRONG}(?:, *{WRONG})*)?"}
 EXPORTS = {"exported": FUNCTION, "promises what is promised by": FUNCTION}
-EDITS = {"edit": rf"{CRATE}/[\w-]+", "refused by": THEOREM}
+EDITS = {"edit": rf"{CRATE}/[\w-]+", "refused by": rf"{THEOREM}|fn \w+(?:::\w+)* {NAME}"}
 EXCEPTIONS = {"function": FUNCTION, "what is open": ".+", "why": ".+"}
 
 

@@ -2,7 +2,7 @@
 // crate lines, which is proved; here are only the calls that read and write.
 #![tactic(auto)]
 
-ghost use Rattle.std.specs.Prelude.{◌≤◌};
+ghost use Rattle.std.specs.Prelude.{◌≤◌, length};
 
 use lines::{KEPT, Line};
 use std::fmt;
@@ -70,14 +70,12 @@ struct Kept {
     ghost few: { len ≤ 91 },
 }
 
+// The output has room for any answer, which is three bytes at most: lines' theorem about a whole run (proofs/Whole.antt) asks it of each call.
 impl Kept {
     // All answers of a piece.
-    fn answer(
-        &mut self,
-        rt: &impl Print,
-        piece: &[u8],
-        out: &mut [u8; ROOM],
-    ) -> Result<(), Failure> {
+    fn answer(&mut self, rt: &impl Print, piece: &[u8], out: &mut [u8; ROOM]) -> Result<(), Failure>
+        requires { 3 ≤ length out.old }
+    {
         let mut rest = piece;
         while !rest.is_empty() {
             let Ok(fed) = lines::feed(rest, &mut self.line, Line { len: self.len }, out) else {
@@ -94,7 +92,9 @@ impl Kept {
 
     // The last line's answer, if it had no line end.
     #[tactic(auto, using(lines::proofs::Whole::finish_numbers))]
-    fn finish(&self, rt: &impl Print, out: &mut [u8; ROOM]) -> Result<(), Failure> {
+    fn finish(&self, rt: &impl Print, out: &mut [u8; ROOM]) -> Result<(), Failure>
+        requires { 3 ≤ length out.old }
+    {
         let Ok(n) = lines::finish(&self.line, Line { len: self.len }, out) else {
             return Err(Failure::LastAnswer);
         };

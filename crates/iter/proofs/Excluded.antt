@@ -11,12 +11,12 @@ use Rattle.answers.specs.Rules.{padding_long, padding_not_zero, padding_verdict}
 use Rattle.answers.specs.Reading.{room_small, written_into}
 use Rattle.iter.specs.Steps.{symbols_walk, bytes_walk, symbol_step, after_symbol, byte_step, after_byte}
 use Rattle.iter.specs.Numbers.{given_of_step, value_of_step}
-use Rattle.iter.specs.Promises.{SymbolsCounted, BytesCounted, SymbolsWritten, BytesWritten, CharactersWritten, PaddingJudged, CharactersJudged, SymbolsBegun, SymbolGiven, BytesBegun, ByteGiven}
+use Rattle.iter.specs.Promises.{SymbolsCounted, BytesCounted, SymbolsWritten, BytesWritten, CharactersWritten, PaddingJudged, CharactersJudged, SymbolsBegun, SymbolGiven, CountTold, BytesBegun, ByteGiven}
 use Rattle.iter.specs.declared.BytesToSymbols.{BytesToSymbols}
 use Rattle.iter.specs.declared.SymbolsToBytes.{SymbolsToBytes}
 use Rattle.numbers.specs.declared.Refusal.TheVariants.{PaddingLong, PaddingNotZero, RoomSmall}
 use Rattle.numbers.proofs.Numbers.{err_apart, ok_injective}
-use Rattle.std.specs.Prelude.{Ok, Err, Some, None}
+use Rattle.std.specs.Prelude.{Option, Ok, Err, Some, None}
 
 -- ---- the counts
 
@@ -177,3 +177,11 @@ pub bytes_not_going_on : (place : ℕ × ℕ)
     → ByteGiven (bytes_walk place (31 ∷ 0 ∷ 31 ∷ 0 ∷ []) 2) (Some 0) (bytes_walk place (31 ∷ 0 ∷ 31 ∷ 0 ∷ []) 3) → ⊥
 unfolding byte_step to_bytes whole groups spelled bits bits_of
 bytes_not_going_on place p = let e : ◌≡◌ {A = ℕ} 1 0 = ap given_of_step p.given in omega arith
+
+-- ---- how many values are left
+
+pub count_not_unbounded : CountTold (7 ∷ []) (0, None) → ⊥
+count_not_unbounded h = let e : ◌≡◌ {A = ℕ} 0 1 = ap (λ (told : ℕ × Option ℕ). told.0) h in omega arith
+
+pub count_not_a_bound : CountTold (7 ∷ []) (1, Some 2) → ⊥
+count_not_a_bound h = let e : ◌≡◌ {A = ℕ} 2 1 = ap (λ (told : ℕ × Option ℕ). value_of_step told.1) h in omega arith

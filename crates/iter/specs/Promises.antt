@@ -9,7 +9,7 @@ use Rattle.iter.specs.Steps.{symbols_walk, bytes_walk, symbol_step, after_symbol
 use Rattle.iter.specs.declared.BytesToSymbols.{BytesToSymbols}
 use Rattle.iter.specs.declared.SymbolsToBytes.{SymbolsToBytes}
 use Rattle.numbers.specs.declared.Refusal.{Refusal}
-use Rattle.std.specs.Prelude.{Option, Result, ⊤}
+use Rattle.std.specs.Prelude.{Option, Some, Result, ⊤}
 
 -- iter::symbols_for_bytes
 abbrev pub SymbolsCounted : List ℕ → ℕ → Type 0
@@ -79,6 +79,13 @@ pub record SymbolGiven (before : BytesToSymbols) (r : Option ℕ) (after : Bytes
 pub symbol_given_once : (before : BytesToSymbols) (r s : Option ℕ) (after after' : BytesToSymbols)
     → SymbolGiven before r after → SymbolGiven before s after' → (r ≡ s) × (after ≡ after')
 symbol_given_once before r s after after' p q = (same p.given q.given, same p.left q.left)
+
+-- size_hint of a walk with these values left: so many at least, and no more
+abbrev pub CountTold : List ℕ → ℕ × Option ℕ → Type 0
+CountTold left r = r ≡ (length left, Some (length left))
+
+pub count_told_once : (left : List ℕ) (r s : ℕ × Option ℕ) → CountTold left r → CountTold left s → r ≡ s
+count_told_once left r s p q = same p q
 
 -- iter::SymbolsToBytes::new
 abbrev pub BytesBegun : ℕ × ℕ → List ℕ → SymbolsToBytes → Type 0

@@ -2,14 +2,15 @@
 // A symbol counts by its low five bits.
 #![tactic(auto)]
 
-ghost use Rattle.std.specs.Prelude.{◌≡◌, List, map, ℕ, ◌+◌, ◌-◌, ◌*◌, ◌/◌, ◌%◌, ◌^◌, ◌<◌, length, get_or};
-ghost use Rattle.std.specs.Iterator.{YieldsFirst, item_count};
+ghost use Rattle.std.specs.Prelude.{◌≡◌, List, map, IfSome, ℕ, ◌≤◌, ◌+◌, ◌-◌, ◌*◌, ◌/◌, ◌%◌, ◌^◌, ◌<◌, length, get_or};
+ghost use Rattle.std.specs.Iterator.{YieldsFirst, UpTo, at_most, item_count};
+ghost use Rattle.std.specs.Iterator.SizeHint.{IsWithinCount};
 ghost use Rattle.paper.specs.Bits.{to_bytes, to_symbols};
 ghost use Rattle.paper.specs.Charset.{symbol};
 ghost use Rattle.answers.specs.Rules.{padding_verdict};
 ghost use Rattle.iter.specs.Writing.{Wrote, Gives};
 ghost use Rattle.iter.specs.Steps.{symbols_left, bytes_left};
-ghost use Rattle.iter.specs.Promises.{SymbolsCounted, BytesCounted, SymbolsWritten, BytesWritten, CharactersWritten, PaddingJudged, CharactersJudged, SymbolsBegun, SymbolGiven, BytesBegun, ByteGiven};
+ghost use Rattle.iter.specs.Promises.{SymbolsCounted, BytesCounted, SymbolsWritten, BytesWritten, CharactersWritten, PaddingJudged, CharactersJudged, SymbolsBegun, SymbolGiven, CountTold, BytesBegun, ByteGiven};
 
 use gf32::Classes;
 use numbers::Refusal;
@@ -90,7 +91,8 @@ impl<'a> BytesToSymbols<'a> {
         BytesToSymbols { bytes, at: 0 }
     }
 
-    // The iterator's step is this one; a trait's method would not have this promise.
+    // The iterator's step is this one. What the trait promises of it fixes each value; with clauses of its own in their place a `for` over a walk would
+    // need a measure.
     pub fn next(&mut self) -> Option<u8>
         ensures { SymbolGiven self.old result self.new }
     {
@@ -114,9 +116,14 @@ impl<'a> Iterator for BytesToSymbols<'a> {
         BytesToSymbols::next(self)
     }
 
-    fn size_hint(&self) -> (usize, Option<usize>) {
-        let left = symbols_for_bytes(self.bytes).saturating_sub(self.at);
-        (left, Some(left))
+    // Exactly, where the trait asks for bounds alone.
+    fn size_hint(&self) -> (usize, Option<usize>)
+        ensures lower { IsWithinCount result.0 (at_most (length (symbols_left self.now))) }
+        ensures upper { IfSome result.1 (UpTo (at_most (length (symbols_left self.now)))) }
+        ensures value { CountTold (symbols_left self.now) result }
+    {
+        let symbols = symbols_for_bytes(self.bytes).saturating_sub(self.at);
+        (symbols, Some(symbols))
     }
 }
 
@@ -157,9 +164,13 @@ impl<'a> Iterator for SymbolsToBytes<'a> {
         SymbolsToBytes::next(self)
     }
 
-    fn size_hint(&self) -> (usize, Option<usize>) {
-        let left = bytes_for_symbols(self.symbols).saturating_sub(self.at);
-        (left, Some(left))
+    fn size_hint(&self) -> (usize, Option<usize>)
+        ensures lower { IsWithinCount result.0 (at_most (length (bytes_left self.now))) }
+        ensures upper { IfSome result.1 (UpTo (at_most (length (bytes_left self.now)))) }
+        ensures value { CountTold (bytes_left self.now) result }
+    {
+        let bytes = bytes_for_symbols(self.symbols).saturating_sub(self.at);
+        (bytes, Some(bytes))
     }
 }
 
