@@ -1,5 +1,4 @@
--- Symbols over 31: the test and the statement; and what a loop that looks for one needs. None stands before place i, so whether there is one
--- in the list is whether there is one left.
+-- Symbols over 31: the test and the statement.
 use mathlib.Core.Path.{◌≡◌, refl, ap}
 use mathlib.Core.Bool.{Bool, false, ◌||◌}
 use mathlib.Core.List.{List, [], ◌∷◌}

@@ -27,7 +27,7 @@ impl<'a> Frame<'a> {
         ensures { out.new ≡ written_string (constant_for self.entry.checksum) self.entry.prefix.now symbols.now }
     {
         let start = self.prefix.len() + 1;
-        out[start..start + symbols.len()].copy_from_slice(symbols);
+        lay(symbols, &mut out[start..start + symbols.len()]);
         self.finish(symbols.len(), out);
     }
 
@@ -80,6 +80,17 @@ pub(crate) fn put_address(prefix: &[u8], version: u8, program: &[u8], out: &mut 
         prefix,
     };
     frame.finish(1 + count, out);
+}
+
+// A symbol a turn: a copy would be a call of C's memmove, and what C links needs no function from outside.
+#[tactic(auto, using(laws::proofs::Front::front_more))]
+fn lay(symbols: &[u8], place: &mut [u8])
+    requires { length place.old ≡ length symbols.now }
+    ensures { place.new ≡ symbols.now }
+{
+    for (i, symbol) in place.iter_mut().enumerate() {
+        *symbol = symbols[i];
+    }
 }
 
 // The checksum after so many symbols, and all of them as letters.
