@@ -3,7 +3,7 @@
 // GF(1024), so one list serves both.
 #![tactic(auto)]
 
-ghost use Rattle.std.specs.Prelude.{◌≡◌, ◌<◌, ◌≤◌, ◌%◌, get_or};
+ghost use Rattle.std.specs.Prelude.{◌≡◌, ◌<◌, ◌≤◌, ◌%◌, get_or, reverse};
 ghost use Rattle.gf32_ext.specs.Field.{field_order, product, power};
 ghost use Rattle.laws.specs.Lists.{table};
 ghost use Rattle.fieldvec.specs.Lists.{capacity, listed, alike};
@@ -116,10 +116,12 @@ impl FieldVec {
     pub fn reverse(&mut self) -> Result<(), Refusal>
         ensures { Reversed self.old result self.new }
     {
-        let n = self.elements()?.len();
-        let (elements, rest) = self.items.split_at_mut(n);
-        elements.reverse();
-        rest.fill(0);
+        let elements = self.elements()?;
+        let items = array::from_fn(|i| reversed_at(elements, i));
+        *self = FieldVec {
+            items,
+            len: elements.len(),
+        };
         Ok(())
     }
 
@@ -187,6 +189,13 @@ fn stored_at(s: &[u16], at: usize) -> u16
     ensures { result ≡ get_or s.now at 0 }
 {
     s.get(at).map_or(0, |stored| *stored)
+}
+
+// The same from the other end.
+fn reversed_at(s: &[u16], at: usize) -> u16
+    ensures { result ≡ get_or (reverse s.now) at 0 }
+{
+    if at < s.len() { s[s.len() - 1 - at] } else { 0 }
 }
 
 fn first_powers(base: u32, n: usize) -> FieldVec

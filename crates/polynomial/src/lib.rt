@@ -234,12 +234,18 @@ fn total_of(s: &[u16]) -> u32
     value_by(s, |value| value)
 }
 
+// By halves: with one factor a turn, up to 1022 products stand before a search that starts late.
 fn power_of(base: u32, n: usize) -> u32
     ensures { result ≡ power base n }
 {
-    let mut value = 1;
-    for _ in 0..n {
-        value = gf32_ext::multiply(base, value);
+    if n == 0 {
+        return 1;
     }
-    value
+    let half = power_of(base, n / 2);
+    let even = gf32_ext::multiply(half, half);
+    if n % 2 == 0 {
+        even
+    } else {
+        gf32_ext::multiply(base, even)
+    }
 }
